@@ -1,0 +1,63 @@
+-- One parameter on the wire, and a run of them (RFC 3868, 3.1.5).
+use Prim.Native.Nat.{ℕ, _+_, _-_, _*_, _/_, _%_, _≤_, _<_}
+use mathlib.Core.List.{List, [], _∷_, _++_}
+use lib.ListN.{length, replicate}
+use lib.Dec.{leb}
+use Rattle.bcd.specs.Outcome.{Outcome, accepted, demand, after, each, Octets, most, fit64}
+
+-- A parameter is a tag and a value (RFC 3868, 3.1.5).
+pub record Param : Type 0 where
+  pub tag : ℕ
+  pub value : List ℕ
+
+-- A 16-bit number, the high octet first (RFC 3868, 3.1).
+abbrev pub two : ℕ → List ℕ
+two n = n / 256 ∷ n % 256 ∷ []
+
+-- Rounded up to a multiple of 4.
+abbrev pub roundUp : ℕ → ℕ
+roundUp n = (n + 3) / 4 * 4
+
+-- What a parameter with a value of n octets takes: tag, length, value and padding (RFC 3868, 3.1.5).
+abbrev pub paddedLength : ℕ → ℕ
+paddedLength n = roundUp (4 + n)
+
+-- Tag, length (of tag, length and value), value, and zeros up to a multiple of 4 (RFC 3868, 3.1.5).
+unfoldable pub paramOctets : Param → List ℕ
+paramOctets p =
+    two (p .tag)
+    ++ two (4 + length (p .value))
+    ++ p .value
+    ++ replicate (paddedLength (length (p .value)) - (4 + length (p .value))) 0
+
+-- The octets of a run: one parameter after the other.
+unfoldable pub runOctets : List Param → List ℕ
+runOctets [] = []
+runOctets (p ∷ ps) = paramOctets p ++ runOctets ps
+
+-- The padded lengths of a run's parameters, added up.
+unfoldable pub runLength : List Param → ℕ
+runLength [] = 0
+runLength (p ∷ ps) = paddedLength (length (p .value)) + runLength ps
+
+-- The longest value that a parameter's length of 16 bits can tell (document 01, 'Bounds of the domain').
+abbrev pub mostValue : ℕ
+mostValue = 65531
+
+-- Writing one parameter: a value above 65,531 octets is refused as 10.
+unfoldable pub encodeParam : Param → Outcome (List ℕ)
+encodeParam p = demand (leb (length (p .value)) mostValue) 10 (p .tag ∷ length (p .value) ∷ []) (accepted (paramOctets p))
+
+-- Octets written are at most 1,048,576, else 12.
+abbrev pub writable : List ℕ → Outcome (List ℕ)
+writable os = demand (leb (length os) most) 12 (fit64 (length os) ∷ []) (accepted os)
+
+-- Writing a list: 10 at the first value that is too long, then 12 (document 01, 'Order').
+unfoldable pub encodeParams : List Param → Outcome (List ℕ)
+encodeParams ps = after (each encodeParam ps) writable
+
+-- A parameter that the wire can carry: a 16-bit tag, and octets that a 16-bit length can tell.
+pub record Fits (p : Param) : Type 0 where
+  pub tag : p .tag < 65536
+  pub size : length (p .value) ≤ mostValue
+  pub octets : Octets (p .value)

@@ -1,0 +1,61 @@
+-- Records in three lent slices of numbers: tag, start and length (document 01, 'Rust forms that cannot stay').
+use Prim.Native.Nat.{ℕ, _+_, min}
+use mathlib.Core.List.{List, [], _∷_, _++_, map}
+use lib.ListN.{length, take, drop}
+use lib.Dec.{leb}
+use Rattle.bcd.specs.Outcome.{Outcome, accepted, refused, pick, demand, each}
+use Rattle.parameter.specs.Parameter.{Param}
+use Rattle.parameter.specs.Walk.{valued}
+use Rattle.parameter.specs.declared.Place.{Place}
+
+pub record Table : Type 0 where
+  pub tags : List ℕ
+  pub starts : List ℕ
+  pub lengths : List ℕ
+
+-- The shortest slice is the table's room (docs/DECISIONS.md, point 1).
+unfoldable pub room : Table → ℕ
+room t = min (length (t .tags)) (min (length (t .starts)) (length (t .lengths)))
+
+-- What a call that reads into a lent table answers, and what the table then holds.
+pub record Tabulated : Type 0 where
+  pub answer : Outcome ℕ
+  pub table : Table
+
+-- A list in front of what a slice held beyond it.
+abbrev pub over : List ℕ → List ℕ → List ℕ
+over xs held = xs ++ drop (length xs) held
+
+-- Places that fit are stored from the front, and their number is answered. Places that do not fit are refused as 13 with
+-- the count needed, and a refusal leaves the table as it was (document 01, 'Agreement on contracts').
+unfoldable pub tabulate : Outcome (List Place) → Table → Tabulated
+tabulate (refused n vs) t = record { answer = refused n vs; table = t }
+tabulate (accepted ps) t =
+    pick (leb (length ps) (room t))
+    (record {
+      answer = accepted (length ps);
+      table = record {
+        tags = over (map (λ p. p .tag) ps) (t .tags);
+        starts = over (map (λ p. p .start) ps) (t .starts);
+        lengths = over (map (λ p. p .length) ps) (t .lengths);
+      };
+    })
+    (record { answer = refused 13 (length ps ∷ []); table = t })
+
+-- The records of a table, row by row.
+unfoldable pub rows : List ℕ → List ℕ → List ℕ → List Place
+rows (t ∷ ts) (s ∷ ss) (l ∷ ls) = record { tag = t; start = s; length = l } ∷ rows ts ss ls
+rows [] ss ls = []
+rows (t ∷ ts) [] ls = []
+rows (t ∷ ts) (s ∷ ss) [] = []
+
+-- A record's parameter; 15 where it reaches outside the values.
+unfoldable pub recordIn : List ℕ → Place → Outcome (List Param)
+recordIn values p = demand (leb (p .start + p .length) (length values)) 15 [] (accepted (valued values p ∷ []))
+
+-- The parameters of the first so many records over a lent slice of values; 15 where the count or a record reaches
+-- outside its slice (document 01, 'Refused because of what was lent').
+unfoldable pub records : List ℕ → Table → (count : ℕ) → Outcome (List Param)
+records values t count =
+    demand (leb count (room t)) 15 []
+    (each (recordIn values) (take count (rows (t .tags) (t .starts) (t .lengths))))

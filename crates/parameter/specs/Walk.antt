@@ -1,0 +1,63 @@
+-- A run of parameters, walked from a position (RFC 3868, 3.1.5).
+use Prim.Native.Nat.{ℕ, zero, suc, _+_, _-_, _*_}
+use mathlib.Core.List.{List, [], _∷_, map}
+use lib.ListN.{length, getD, take, drop}
+use lib.Dec.{leb, ltb}
+use Rattle.bcd.specs.Outcome.{Outcome, accepted, refused, pick, after, demand, mapped}
+use Rattle.bcd.specs.Answers.{refusalOf}
+use Rattle.parameter.specs.Parameter.{Param, paddedLength}
+use Rattle.parameter.specs.declared.Place.{Place}
+use Rattle.parameter.specs.declared.Step.{Step}
+use Rattle.parameter.specs.declared.Step.the-variants as S
+
+-- What stands at a position: no more parameters, or a parameter's place and where the next one starts.
+pub data Walked : Type 0 where
+  ended : Walked
+  found : Place → (next : ℕ) → Walked
+
+-- The 16-bit number at a position, the high octet first (RFC 3868, 3.1).
+unfoldable pub twoAt : List ℕ → ℕ → ℕ
+twoAt xs i = getD xs i 0 * 256 + getD xs (i + 1) 0
+
+-- A tag and a length at a position, with so many octets from the tag to the end: a length below 4 is 5, one beyond the
+-- octets is 6 (document 01, 'Refused because of the input'). The next parameter starts behind the padding.
+unfoldable pub headed : (tag len at left : ℕ) → Outcome Walked
+headed tag len at left =
+    demand (leb 4 len) 5 (tag ∷ len ∷ [])
+    (demand (leb len left) 6 (tag ∷ len ∷ left ∷ [])
+    (accepted (found (record { tag = tag; start = at + 4; length = len - 4 }) (at + paddedLength (len - 4)))))
+
+-- One step: under four octets are the end of the run (document 01, module 2).
+unfoldable pub stepAt : List ℕ → (at : ℕ) → Outcome Walked
+stepAt xs at =
+    pick (ltb (length xs - at) 4) (accepted ended)
+    (headed (twoAt xs at) (twoAt xs (at + 2)) at (length xs - at))
+
+-- On from what a step found.
+abbrev pub onward : (ℕ → Outcome (List Place)) → Walked → Outcome (List Place)
+onward walk ended = accepted []
+onward walk (found p next) = mapped (λ ps. p ∷ ps) (walk next)
+
+-- At most so many steps from a position on.
+unfoldable pub steps : ℕ → List ℕ → (at : ℕ) → Outcome (List Place)
+steps zero xs at = accepted []
+steps (suc n) xs at = after (stepAt xs at) (onward (steps n xs))
+
+-- The places of all parameters from a position on: each tag with where its value starts and how long it is. A parameter
+-- has four octets or more, so there are never more steps than octets (`steps-enough`).
+unfoldable pub places : List ℕ → (at : ℕ) → Outcome (List Place)
+places xs at = steps (length xs) xs at
+
+-- The parameter at a place: its value is that part of the octets.
+abbrev pub valued : List ℕ → Place → Param
+valued xs p = record { tag = p .tag; value = take (p .length) (drop (p .start) xs) }
+
+-- The parameters of a run: each tag with its value.
+unfoldable pub parameters : List ℕ → Outcome (List Param)
+parameters xs = mapped (map (valued xs)) (places xs 0)
+
+-- Which outcome each answer of the cursor is.
+abbrev pub stepOf : Step → Outcome Walked
+stepOf (S.Parameter p c) = accepted (found p (c .at))
+stepOf S.End = accepted ended
+stepOf (S.Refused r) = refusalOf r

@@ -1,3 +1,8 @@
 pub mod Outcomes
 pub mod Writing
 pub mod Distinct
+pub mod Below
+pub mod Characters
+pub mod Halves
+pub mod Writable
+pub mod Reading

@@ -109,6 +109,11 @@ pub all-replicate : {A : Type 0} (P : A → Type 0) (n : ℕ) (x : A) → P x �
 all-replicate P zero x h = tt
 all-replicate P (suc n) x h = (h, all-replicate P n x h)
 
+pub all-at : {A : Type 0} (P : A → Type 0) (xs : List A) (i : ℕ) (d : A) → All P xs → i < length xs → P (getD xs i d)
+all-at P [] i d h l = absurd (omega arith)
+all-at P (x ∷ xs) zero d h l = h .0
+all-at P (x ∷ xs) (suc i) d h l = all-at P xs i d (h .1) (omega arith)
+
 -- an octet string, by its places: what a lent slice of octets tells
 pub octets-of : (xs : List ℕ) → ((i : ℕ) → getD xs i 0 < 256) → Octets xs
 octets-of [] h = tt

@@ -2,7 +2,7 @@
 use Prim.Native.Nat.{ℕ, suc, _+_, _*_, _/_, _%_, _<_}
 use mathlib.Core.Path.{_≡_}
 use mathlib.Core.Bool.{Bool, _&&_}
-use mathlib.Core.Option.{Option, none, some}
+use mathlib.Core.Option.{Option, none, some, Option·map, Option·getD}
 use mathlib.Core.List.{List, [], _∷_, map}
 use lib.ListN.{length, getD, take}
 use lib.Dec.{leb, eqb}
@@ -32,11 +32,7 @@ pub record Lawful (A : Alphabet) : Type 0 where
 -- The first place of a character in a list, if it is there.
 abbrev pub place : ℕ → List ℕ → Option ℕ
 place c [] = none
-place c (x ∷ xs) = pick (eqb c x) (some 0) (next (place c xs))
-  where
-    next : Option ℕ → Option ℕ
-    next none = none
-    next (some n) = some (suc n)
+place c (x ∷ xs) = pick (eqb c x) (some 0) (Option·map suc (place c xs))
 
 -- The built-in characters of the half octets 0 to 15 (document 01, module 1): 0 1 2 3 4 5 6 7 8 9 * # a b c ?
 abbrev pub characters : List ℕ
@@ -63,6 +59,10 @@ readDigits A xs count = bounded xs (accepted (digitsIn A xs count))
 abbrev pub written : ℕ → Option ℕ → Outcome (List ℕ)
 written c none = refused 9 (c ∷ [])
 written c (some h) = accepted (h ∷ [])
+
+-- A character's half octet, or 16 where it has none.
+abbrev pub nibble : Alphabet → ℕ → ℕ
+nibble A c = Option·getD (A .half c) 16
 
 -- Writing digits refuses 11, then 9 at the first bad one (document 01, 'Order').
 unfoldable pub writeDigits : Alphabet → List ℕ → Outcome (List ℕ)

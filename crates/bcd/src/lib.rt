@@ -1,1 +1,161 @@
+// The digits of a global title: two to an octet, the first in the low half (bcd.rs; RFC 3868, 3.10.2.3).
 pub mod error;
+
+use error::Counted;
+use error::Refusal;
+ghost use mathlib.Core.Path.{_≡_};
+ghost use Prim.Native.Nat.{ℕ, _+_, _*_, _/_, _≤_, _<_, min};
+ghost use mathlib.Core.List.{List, map};
+ghost use lib.ListN.{length, getD, replicate};
+ghost use Rattle.bcd.specs.Outcome.{accepted, mapped, All, deliver};
+ghost use Rattle.bcd.specs.Answers.{countedOf};
+ghost use Rattle.bcd.specs.Digits.{halves, pack, nibble, builtIn, digitsIn, readDigits, writeDigits};
+
+// What reading digits answers: how many there are, or why none were read; and the digits in front of zeros, or zeros
+// alone.
+pub struct GtDigits {
+    pub answer: Counted,
+    pub digits: [u8; 255],
+}
+
+// The half octet that a digit is written as, or 16 where the octet is no digit.
+fn char_to_nibble(digit: u8) -> u8
+    ensures { λ r. ⌜ r ≡ nibble builtIn digit ⌝ }
+{
+    match digit {
+        b'0'..=b'9' => digit - b'0',
+        b'*' => 0x0A,
+        b'#' => 0x0B,
+        b'a' | b'A' => 0x0C,
+        b'b' | b'B' => 0x0D,
+        b'c' | b'C' => 0x0E,
+        _ => 16,
+    }
+}
+
+// The digit that a half octet reads as.
+fn nibble_to_char(nibble: u8) -> u8
+    ensures { λ r. ⌜ r ≡ builtIn .char nibble ⌝ }
+{
+    match nibble {
+        0..=9 => b'0' + nibble,
+        0x0A => b'*',
+        0x0B => b'#',
+        0x0C => b'a',
+        0x0D => b'b',
+        0x0E => b'c',
+        _ => b'?',
+    }
+}
+
+// How many octets `encode_gt_digits` writes.
+pub fn gt_digits_length(digits: &[u8]) -> Counted
+    ensures { λ r. ⌜ countedOf r ≡ mapped length (writeDigits builtIn (now (digits .entry))) ⌝ }
+{
+    let n = digits.len();
+    if 255 < n {
+        return Counted::Refused(Refusal::TooManyDigits(n));
+    }
+    let mut i = 0;
+    while i < n {
+        let digit = digits[i];
+        if 15 < char_to_nibble(digit) {
+            return Counted::Refused(Refusal::InvalidBcdDigit(digit));
+        }
+        i += 1;
+    }
+    Counted::Count((n + 1) / 2)
+}
+
+// The octet at place k of what digits are written as: two of them, or the odd last one with 0 in the high half.
+fn octet_at(digits: &[u8], k: usize) -> u8
+    requires { ⌜ 2 * k < length (now digits) ⌝ }
+    requires { ⌜ All (λ (digit : ℕ). nibble builtIn digit ≤ 15) (now digits) ⌝ }
+    ensures { λ r. ⌜ r ≡ getD (pack (map (nibble builtIn) (now (digits .entry)))) k 0 ⌝ }
+{
+    let low = char_to_nibble(digits[2 * k]);
+    if 2 * k + 1 < digits.len() {
+        return char_to_nibble(digits[2 * k + 1]) * 16 + low;
+    }
+    low
+}
+
+// Writes digits that have been checked.
+fn pack_digits(digits: &[u8], n: usize, out: &mut [u8])
+    requires { ⌜ accepted n ≡ mapped length (writeDigits builtIn (now digits)) ⌝ }
+    requires { ⌜ n ≤ length (now out) ⌝ }
+    ensures { λ _. ⌜ record { answer = accepted n; buffer = now (out .exit) } ≡ deliver (writeDigits builtIn (now (digits .entry))) (now (out .entry)) ⌝ }
+{
+    let mut k = 0;
+    while k < n {
+        out[k] = octet_at(digits, k);
+        k += 1;
+    }
+}
+
+// Writes digits, two to an octet. 11, then 9 at the first octet that is no digit, then 14.
+pub fn encode_gt_digits(digits: &[u8], out: &mut [u8]) -> Counted
+    ensures { λ r. ⌜ record { answer = countedOf r; buffer = now (out .exit) } ≡ deliver (writeDigits builtIn (now (digits .entry))) (now (out .entry)) ⌝ }
+{
+    match gt_digits_length(digits) {
+        Counted::Refused(r) => Counted::Refused(r),
+        Counted::Count(n) => {
+            if out.len() < n {
+                return Counted::Refused(Refusal::OutputTooSmall(n));
+            }
+            pack_digits(digits, n, out);
+            Counted::Count(n)
+        }
+    }
+}
+
+// The digit at place i, the low half of an octet first.
+fn digit_at(bytes: &[u8], i: usize) -> u8
+    requires { ⌜ i < 2 * length (now bytes) ⌝ }
+    ensures { λ r. ⌜ r ≡ builtIn .char (getD (halves (now (bytes .entry))) i 0) ⌝ }
+{
+    let byte = bytes[i / 2];
+    if i % 2 == 0 {
+        return nibble_to_char(byte % 16);
+    }
+    nibble_to_char(byte / 16)
+}
+
+// Stores the first n digits.
+fn unpack_digits(bytes: &[u8], n: usize, out: &mut [u8])
+    requires { ⌜ n ≤ 2 * length (now bytes) ⌝ }
+    requires { ⌜ n ≤ length (now out) ⌝ }
+    ensures { λ _. ⌜ record { answer = accepted n; buffer = now (out .exit) } ≡ deliver (accepted (digitsIn builtIn (now (bytes .entry)) n)) (now (out .entry)) ⌝ }
+{
+    let mut i = 0;
+    while i < n {
+        out[i] = digit_at(bytes, i);
+        i += 1;
+    }
+}
+
+fn smaller(a: usize, b: usize) -> usize
+    ensures { λ r. ⌜ r ≡ min a b ⌝ }
+{
+    if a < b { a } else { b }
+}
+
+// Reads digits: as many as the count says, or as there are. 12.
+pub fn decode_gt_digits(bytes: &[u8], num_digits: u8) -> GtDigits
+    ensures { λ r. ⌜ record { answer = countedOf (r .answer); buffer = r .digits } ≡ deliver (readDigits builtIn (now (bytes .entry)) «num_digits») (replicate 255 0) ⌝ }
+{
+    let mut digits = [0u8; 255];
+    let given = bytes.len();
+    if 1048576 < given {
+        return GtDigits {
+            answer: Counted::Refused(Refusal::TooManyOctets(given)),
+            digits,
+        };
+    }
+    let n = smaller(num_digits as usize, 2 * given);
+    unpack_digits(bytes, n, &mut digits);
+    GtDigits {
+        answer: Counted::Count(n),
+        digits,
+    }
+}

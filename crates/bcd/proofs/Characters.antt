@@ -162,3 +162,20 @@ pub char-half : (c h : ℕ) → builtIn .half c ≡ some h → builtIn .char h �
 char-half c h e =
     let (l, there) = place-at (fold c) (take 15 characters) h 0x3F e in
     sym (getD-take 15 characters h 0x3F (omega arith)) ∙ there
+
+-- a character that is folded is written
+pub fold-written : (c : ℕ) → builtIn .half c ≡ none → fold c ≡ c
+fold-written c e =
+    ⊎-elim
+    (λ low. ⊎-elim
+    (λ high. let z : 16 ≡ nibble builtIn c = sym (ap (λ o. Option·getD o 16) e) in absurd (written (c - 0x41) (omega arith) (let s : c - 0x41 + 0x41 ≡ c = omega arith in rw s z)))
+    (λ high. fold-large c high)
+    (le-or-lt c 0x43))
+    (λ low. fold-small c low)
+    (le-or-lt 0x41 c)
+  where
+    written : (i : ℕ) → i < 3 → 16 ≡ nibble builtIn (i + 0x41) → ⊥
+    written i h z =
+        let t : leb (nibble builtIn (i + 0x41)) 15 ≡ true = below-at 3 (λ j. leb (nibble builtIn (j + 0x41)) 15) refl i h in
+        let l = leb-true (nibble builtIn (i + 0x41)) 15 t in
+        omega arith

@@ -6,3 +6,4 @@ pub mod Characters
 pub mod Halves
 pub mod Writable
 pub mod Reading
+pub mod Digits

@@ -56,11 +56,11 @@ module _ (A : Alphabet) (xs : List ℕ) where
   unfolding digitsIn
   digits-length count = rw (length-map (take count (halves xs)) (A .char), length-take count (halves xs), halves-length xs)
 
-  pub digits-at : (count i : ℕ) → i < count → count ≤ 2 * length xs → getD (digitsIn A xs count) i 0 ≡ A .char (getD (halves xs) i 0)
+  pub digits-at : (count i : ℕ) → i < min count (2 * length xs) → getD (digitsIn A xs count) i 0 ≡ A .char (getD (halves xs) i 0)
   unfolding digitsIn
-  digits-at count i h l =
-      let long : i < length (take count (halves xs)) = rw (length-take count (halves xs), halves-length xs) (omega arith) in
-      map-at (A .char) (take count (halves xs)) i long ∙ ap (A .char) (getD-take count (halves xs) i 0 h)
+  digits-at count i h =
+      let long : i < length (take count (halves xs)) = rw (length-take count (halves xs), halves-length xs) h in
+      map-at (A .char) (take count (halves xs)) i long ∙ ap (A .char) (getD-take count (halves xs) i 0 (omega arith))
 
   pub digits-most : (count : ℕ) → digitsIn A xs (min count (2 * length xs)) ≡ digitsIn A xs count
   unfolding digitsIn

@@ -42,7 +42,7 @@ loop-again c =
     let start = t .before .before .before .before in
     let os = digitsIn builtIn (start .args .bytes .now) (start .args .n) in
     let l = t .before .loop in
-    let v = c .digit-at .ensures ∙ sym (digits-at builtIn (start .args .bytes .now) (start .args .n) (l .i) (t .loop-test .taken) (start .pre .0)) in (
+    let v = c .digit-at .ensures ∙ sym (digits-at builtIn (start .args .bytes .now) (start .args .n) (l .i) (omega arith)) in (
       search needs,
       subst (λ (v : ℕ). Begun (start .args .out .now) (take (l .i + 1) os) (set (l .out) (l .i) v)) (sym v)
           (store-next os (l .i) (l .inv .1) (omega (arith, digits-length builtIn (start .args .bytes .now) (start .args .n))) (omega arith)),

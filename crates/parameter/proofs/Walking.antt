@@ -23,7 +23,7 @@ module _ (xs : List ℕ) (at : ℕ) where
   step-end h = rw (lt-ltb (length xs - at) 4 h)
 
   module _ (tag len : ℕ) (h : 4 ≤ length xs - at) (t : tag ≡ twoAt xs at) (l : len ≡ twoAt xs (at + 2)) where
-    step-headed : stepAt xs at ≡ headed tag len at (length xs - at)
+    pub step-headed : stepAt xs at ≡ headed tag len at (length xs - at)
     unfolding stepAt
     step-headed = rw (le-ltb (length xs - at) 4 h, t, l)
 

@@ -1,2 +1,3 @@
 pub mod Walking
 pub mod Structure
+pub mod RoundTrip

@@ -1,3 +1,4 @@
 pub mod Walking
 pub mod Structure
 pub mod RoundTrip
+pub mod Reading

@@ -1,17 +1,16 @@
 -- What a run of parameters is written as: its length, when it is accepted, and that it reads back as the same run.
-use Prim.Native.Nat.{ℕ, zero, suc, _+_, _-_, _*_, _/_, _%_, _≤_, _<_}
+use Prim.Native.Nat.{ℕ, _+_, _-_, _≤_, _<_}
 use mathlib.Core.Path.{_≡_, refl, sym, ap, ap₂, _∙_, subst}
 use mathlib.Core.List.{List, [], _∷_, _++_, append-assoc}
 use native.Mathlib.Omega.{arith}
 use borrow.Author.Tests.{le-leb, leb-true}
 use lib.Dec.{leb}
-use lib.ListN.{length, take, drop, replicate, length-append, length-replicate}
-use lib.Seq.{take-at, drop-at}
-use Rattle.bcd.specs.Outcome.{accepted, mapped, each, All, Octets, most}
+use lib.ListN.{length, replicate, length-append, length-replicate}
+use Rattle.bcd.specs.Outcome.{accepted, each, All, Octets, most}
 use Rattle.bcd.proofs.Outcomes.{accepted-inj, after-inv, demand-inv, each-cons, each-inv, all-append, all-replicate}
-use Rattle.parameter.specs.Parameter.{Param, two, paddedLength, paramOctets, runOctets, runLength, mostValue, encodeParam, encodeParams, Fits}
+use Rattle.parameter.specs.Parameter.{Param, paddedLength, paramOctets, runOctets, runLength, mostValue, encodeParam, encodeParams, Fits}
 use Rattle.parameter.specs.Walk.{parameters}
-use Rattle.parameter.proofs.Structure.{walk, parameters-walk}
+use Rattle.parameter.proofs.Padding.{padding, Holds, tail, next, padding-ignored}
 
 pub octets-length : (p : Param) → length (paramOctets p) ≡ paddedLength (length (p .value))
 unfolding paramOctets
@@ -45,34 +44,14 @@ unfolding runOctets
 run-octets [] fs = tt
 run-octets (p ∷ ps) fs = param-octets p (runOctets ps) (fs .0) (run-octets ps (fs .1))
 
-two-joined : (n : ℕ) → n / 256 * 256 + n % 256 ≡ n
-two-joined n = omega arith
-
--- A step undoes one parameter, whatever stands in its padding.
-pub walk-one :
-    (n : ℕ) (p : Param) (pad rest : List ℕ)
-    → length pad ≡ paddedLength (length (p .value)) - (4 + length (p .value))
-    → walk (suc n) (two (p .tag) ++ two (4 + length (p .value)) ++ p .value ++ pad ++ rest) ≡ mapped (λ ps. p ∷ ps) (walk n rest)
-unfolding walk
-walk-one n p pad rest e =
-    let v : List ℕ = p .value in
-    let fitted : 4 + length v ≤ 4 + length (v ++ pad ++ rest) = simp length-append (omega arith) in
-    let same : 4 + length v - 4 ≡ length v = omega arith in
-    let long : length (v ++ pad) ≡ paddedLength (length v) - 4 = rw length-append (omega arith) in
-    let got : take (length v) (v ++ pad ++ rest) ≡ v = rw append-assoc (take-at v (pad ++ rest) (length v) refl) in
-    let left : drop (paddedLength (length v) - 4) (v ++ pad ++ rest) ≡ rest = drop-at (v ++ pad) rest _ long in
-    rw (two-joined (p .tag), two-joined (4 + length v), le-leb 4 (4 + length v) (omega arith), le-leb _ _ fitted, same, got, left)
-
-walk-run : (n : ℕ) (ps : List Param) → runLength ps ≤ n → walk n (runOctets ps) ≡ accepted ps
-unfolding walk runOctets runLength paramOctets
-walk-run zero [] h = refl
-walk-run (suc n) [] h = refl
-walk-run zero (p ∷ ps) h = absurd (omega arith)
-walk-run (suc n) (p ∷ ps) h = walk-one n p _ (runOctets ps) (length-replicate _ 0) ∙ rw (walk-run n ps (omega arith))
+run-holds : (ps : List Param) → Holds ps (runOctets ps)
+unfolding paramOctets runOctets
+run-holds [] = tail [] (omega arith)
+run-holds (p ∷ ps) = rw append-assoc (next p (replicate (padding p) 0) (length-replicate (padding p) 0) (run-holds ps))
 
 -- Whatever was written reads back. It need not fit: that what is written is octets is `run-octets`.
 pub round-trip : (ps : List Param) → parameters (runOctets ps) ≡ accepted ps
-round-trip ps = parameters-walk (runOctets ps) ∙ walk-run (length (runOctets ps)) ps (omega (arith, run-length ps))
+round-trip ps = padding-ignored (run-holds ps)
 
 -- A value that a length of 16 bits can tell.
 abbrev pub Sized : Param → Type 0

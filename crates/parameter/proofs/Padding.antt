@@ -1,12 +1,14 @@
 -- Reading skips the padding, whatever stands there and however much of the last one is there.
 use Prim.Native.Nat.{ℕ, suc, _+_, _-_, _*_, _/_, _%_, _≤_, _<_}
-use mathlib.Core.Path.{_≡_, sym, ap, _∙_}
+use mathlib.Core.Path.{_≡_, refl, sym, ap, _∙_, subst}
+use mathlib.Core.Logic.{_⊎_, inl, inr}
 use mathlib.Core.List.{List, [], _∷_, _++_}
 use native.Mathlib.Omega.{arith}
 use borrow.Author.Tests.{le-leb}
-use lib.ListN.{length, drop, length-append, length-drop, drop-of-length-le}
-use lib.Seq.{take-append-seam, drop-append-add, drop-at}
+use lib.ListN.{length, take, drop, take-append-drop, length-append, length-drop, drop-of-length-le}
+use lib.Seq.{length-take-le, take-append-seam, drop-append-add, drop-at}
 use Rattle.bcd.specs.Outcome.{accepted, mapped}
+use Rattle.bcd.proofs.Outcomes.{le-or-lt}
 use Rattle.parameter.specs.Parameter.{Param, two, paddedLength}
 use Rattle.parameter.specs.Walk.{steps, parameters}
 use Rattle.parameter.proofs.Walking.{step-end}
@@ -63,3 +65,20 @@ pub padding-ignored : {ps : List Param} {os : List ℕ} → Holds ps os → para
 padding-ignored (tail os h) = parameters-end os h
 padding-ignored (last p pad h) = parameters-next p pad ∙ rw (drop-of-length-le pad h, parameters-end [] (omega arith))
 padding-ignored (next p pad {ps} {os} h k) = parameters-next p (pad ++ os) ∙ rw (drop-at pad os (padding p) h, padding-ignored k)
+
+holds-nothing : {ps : List Param} {os : List ℕ} → Holds ps os → length os ≡ 0 → ps ≡ []
+holds-nothing (tail os h) e = refl
+holds-nothing (last p pad h) e = absurd (omega arith)
+holds-nothing (next p pad h k) e = absurd (omega arith)
+
+-- A parameter in front of octets that hold the others behind its padding, be it whole or cut short.
+pub holds-front : (p : Param) (ps : List Param) (rest : List ℕ) → Holds ps (drop (padding p) rest) → Holds (p ∷ ps) (unpadded p ++ rest)
+holds-front p ps rest k = on (le-or-lt (padding p) (length rest))
+  where
+    on : (padding p ≤ length rest) ⊎ (length rest < padding p) → Holds (p ∷ ps) (unpadded p ++ rest)
+    on (inl h) =
+        let whole = next p (take (padding p) rest) (length-take-le (padding p) rest h) k in
+        subst (λ os. Holds (p ∷ ps) (unpadded p ++ os)) (take-append-drop (padding p) rest) whole
+    on (inr h) =
+        let none : ps ≡ [] = holds-nothing k (rw length-drop (omega arith)) in
+        subst (λ qs. Holds (p ∷ qs) (unpadded p ++ rest)) (sym none) (last p rest (omega arith))

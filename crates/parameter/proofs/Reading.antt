@@ -1,16 +1,18 @@
--- What was read fits, takes no more room when it is written, and reads back the same.
-use Prim.Native.Nat.{ℕ, zero, suc, _+_, _-_, _*_, _≤_, _<_}
-use mathlib.Core.Path.{_≡_, sym, _∙_, subst}
-use mathlib.Core.List.{List, [], _∷_}
+-- What was read fits, takes no more room when it is written, and reads back the same; and which octets are read.
+use Prim.Native.Nat.{ℕ, zero, suc, _+_, _-_, _*_, _/_, _%_, _≤_, _<_}
+use mathlib.Core.Path.{_≡_, refl, sym, ap, ap₂, _∙_, subst}
+use mathlib.Core.List.{List, [], _∷_, _++_}
 use native.Mathlib.Omega.{arith}
 use borrow.Author.Tests.{leb-true}
 use lib.Dec.{leb}
-use lib.ListN.{length, take, drop, length-take, length-drop}
+use lib.ListN.{length, take, drop, take-append-drop, length-take, length-drop}
+use lib.Seq.{length-take-le, drop-drop}
 use Rattle.bcd.specs.Outcome.{Outcome, accepted, each, All, Octets, most}
 use Rattle.bcd.proofs.Outcomes.{accepted-inj, mapped-inv, demand-inv, all-take, all-drop}
-use Rattle.parameter.specs.Parameter.{Param, roundUp, paddedLength, runOctets, runLength, encodeParam, encodeParams, Fits}
+use Rattle.parameter.specs.Parameter.{Param, two, roundUp, paddedLength, runOctets, runLength, encodeParam, encodeParams, Fits}
 use Rattle.parameter.specs.Walk.{parameters}
 use Rattle.parameter.proofs.Structure.{walk, parameters-walk}
+use Rattle.parameter.proofs.Padding.{unpadded, padding, Holds, tail, holds-front}
 use Rattle.parameter.proofs.RoundTrip.{run-length, round-trip, all-sized, encode-accepts, encodeParams-accepts}
 
 -- P stays with one more parameter in front: a tag, a length, n octets of value, and what follows the padding.
@@ -61,6 +63,26 @@ pub parameters-room : (xs : List ℕ) (ps : List Param) → parameters xs ≡ ac
 unfolding runLength
 parameters-room = parameters-induct (λ xs ps. runLength ps ≤ roundUp (length xs)) (λ xs h. omega arith)
     (λ a b c d n rest ps e h ih. let k = rw length-drop at ih in rw length-take (omega arith))
+
+two-of : (n a b : ℕ) → n ≡ a * 256 + b → b < 256 → two n ≡ a ∷ b ∷ []
+two-of n a b e h = let high : n / 256 ≡ a = omega arith in let low : n % 256 ≡ b = omega arith in rw (high, low)
+
+-- Octets that were read hold what was read: with `padding-ignored`, reading accepts exactly the octets of a run.
+pub parameters-hold : (xs : List ℕ) (ps : List Param) → Octets xs → parameters xs ≡ accepted ps → Holds ps xs
+parameters-hold xs ps o e = parameters-induct (λ xs ps. Octets xs → Holds ps xs) (λ xs h o. tail xs h) step xs ps e o
+  where
+    step : InFront (λ xs ps. Octets xs → Holds ps xs)
+    step a b c d n rest ps e h ih (ha, (hb, (hc, (hd, hr)))) =
+        let p : Param = record { tag = a * 256 + b; value = take n rest } in
+        let l : length (take n rest) ≡ n = length-take-le n rest h in
+        let skipped : n + padding p ≡ paddedLength n - 4 = omega arith in
+        let behind : drop (padding p) (drop n rest) ≡ drop (paddedLength n - 4) rest = rw (drop-drop, skipped) in
+        let k = subst (Holds ps) (sym behind) (ih (all-drop (λ x. x < 256) (paddedLength n - 4) rest hr)) in
+        let tag : two (a * 256 + b) ≡ a ∷ b ∷ [] = two-of _ a b refl hb in
+        let len : two (4 + length (take n rest)) ≡ c ∷ d ∷ [] = two-of _ c d (omega arith) hd in
+        let same : unpadded p ++ drop n rest ≡ a ∷ b ∷ c ∷ d ∷ rest =
+        ap₂ (λ t l. t ++ l ++ (take n rest ++ drop n rest)) tag len ∙ ap (λ r. a ∷ b ∷ c ∷ d ∷ r) (take-append-drop n rest) in
+        subst (Holds (p ∷ ps)) same (holds-front p ps (drop n rest) k)
 
 -- What was read can be written, takes at most the octets read, rounded up to a multiple of 4, and reads back the same.
 pub record Rewritten (xs : List ℕ) (ps : List Param) : Type 0 where

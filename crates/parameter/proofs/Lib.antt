@@ -1,0 +1,5 @@
+pub mod Walking
+pub mod Structure
+pub mod Padding
+pub mod RoundTrip
+pub mod Reading

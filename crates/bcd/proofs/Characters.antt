@@ -1,5 +1,5 @@
 -- Characters in a list by their places, and the built-in characters, by tests that are computed over all of them.
-use Prim.Native.Nat.{ℕ, zero, suc, _+_, _-_, _≤_, _<_}
+use Prim.Native.Nat.{ℕ, suc, _+_, _-_, _≤_, _<_}
 use mathlib.Core.Path.{_≡_, refl, sym, ap, _∙_}
 use mathlib.Core.Bool.{Bool, true, false, _&&_, _||_}
 use mathlib.Core.Logic.{_⊎_, inl, inr, ⊎-elim}
@@ -9,11 +9,11 @@ use native.Mathlib.Omega.{arith}
 use lib.ListN.{length, getD, take, List·getD-eq-default}
 use lib.Seq.{getD-take}
 use lib.Dec.{leb, eqb}
-use borrow.Author.Tests.{le-leb, lt-leb, leb-true, leb-false, eqb-true}
+use borrow.Author.Tests.{le-leb, lt-leb, leb-true, eqb-true}
 use Rattle.bcd.specs.Outcome.{pick}
-use Rattle.bcd.specs.Digits.{Alphabet, Lawful, characters, fold, place, builtIn, nibble}
+use Rattle.bcd.specs.Digits.{Lawful, characters, fold, place, builtIn, nibble}
 use Rattle.bcd.proofs.Outcomes.{le-or-lt}
-use Rattle.bcd.proofs.Below.{allBelow, below-at}
+use Rattle.bcd.proofs.Below.{below-at}
 
 -- a place is below the list's length, and the character stands there
 pub place-at : (c : ℕ) (xs : List ℕ) (h d : ℕ) → place c xs ≡ some h → (h < length xs) × (getD xs h d ≡ c)

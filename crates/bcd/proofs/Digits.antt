@@ -1,16 +1,16 @@
 -- The laws of digits, over any lawful alphabet, and of the built-in characters.
-use Prim.Native.Nat.{ℕ, zero, suc, _+_, _*_, _/_, _≤_, _<_, min}
-use mathlib.Core.Path.{_≡_, refl, sym, ap, ap₂, _∙_, subst}
-use mathlib.Core.Logic.{_↔_, ⊎-elim}
+use Prim.Native.Nat.{ℕ, _*_, _≤_, _<_, min}
+use mathlib.Core.Path.{_≡_, refl, sym, ap, ap₂, _∙_}
+use mathlib.Core.Logic.{_↔_}
 use mathlib.Core.Option.{Option, none, some, Option·getD}
 use mathlib.Core.List.{List, [], _∷_, _++_, map}
 use native.Mathlib.Omega.{arith}
-use lib.ListN.{length, getD, take, length-map, length-take}
-use lib.Seq.{take-at, ext-getD, getD-take}
+use lib.ListN.{length, getD, take, length-map}
+use lib.Seq.{take-at, ext-getD}
 use Rattle.bcd.specs.Outcome.{Outcome, accepted, refused, mapped, each, All, Octets}
-use Rattle.bcd.specs.Digits.{Alphabet, Lawful, halves, pack, nibble, written, characters, fold, builtIn, digitsIn, writeDigits}
-use Rattle.bcd.proofs.Outcomes.{accepted-inj, le-or-lt, all-take}
-use Rattle.bcd.proofs.Halves.{Nibbles, halves-length, halves-nibbles, halves-pack, filler}
+use Rattle.bcd.specs.Digits.{Alphabet, Lawful, halves, pack, nibble, written, fold, builtIn, digitsIn, writeDigits}
+use Rattle.bcd.proofs.Outcomes.{accepted-inj, all-take}
+use Rattle.bcd.proofs.Halves.{Nibbles, halves-nibbles, halves-pack, filler}
 use Rattle.bcd.proofs.Characters.{builtIn-lawful, builtIn-written, builtIn-distinct, half-fold, char-half, fold-written}
 use Rattle.bcd.proofs.Writable.{nibbles, all-good, write-inv}
 use Rattle.bcd.proofs.Reading.{digits-length, digits-at}

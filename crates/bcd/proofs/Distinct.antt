@@ -4,7 +4,6 @@ use Prim.Native.Nat.{ℕ}
 use mathlib.Core.Path.{_≡_, refl, sym, ap, ap₂, _∙_}
 use mathlib.Core.List.{List, [], _∷_}
 use lib.ListN.{getD}
-use Rattle.bcd.specs.Outcome.{Outcome, accepted, refused}
 use Rattle.bcd.specs.Answers.{numbered, refusalOf, countedOf}
 use Rattle.bcd.specs.declared.error.Refusal.{Refusal}
 use Rattle.bcd.specs.declared.error.Refusal.the-variants as R

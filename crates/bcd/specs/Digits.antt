@@ -1,7 +1,7 @@
 -- The digits of a global title (RFC 3868, 3.10.2.3; coded as ITU-T Q.713, 3.4.2.3.1, but for document 01, module 1).
 use Prim.Native.Nat.{ℕ, suc, _+_, _*_, _/_, _%_, _<_}
 use mathlib.Core.Path.{_≡_}
-use mathlib.Core.Bool.{Bool, _&&_}
+use mathlib.Core.Bool.{_&&_}
 use mathlib.Core.Option.{Option, none, some, Option·map, Option·getD}
 use mathlib.Core.List.{List, [], _∷_, map}
 use lib.ListN.{length, getD, take}
@@ -60,10 +60,10 @@ abbrev pub written : ℕ → Option ℕ → Outcome (List ℕ)
 written c none = refused 9 (c ∷ [])
 written c (some h) = accepted (h ∷ [])
 
--- A character's half octet, or 16 where it has none.
-abbrev pub nibble : Alphabet → ℕ → ℕ
-nibble A c = Option·getD (A .half c) 16
-
 -- Writing digits refuses 11, then 9 at the first bad one (document 01, 'Order').
 unfoldable pub writeDigits : Alphabet → List ℕ → Outcome (List ℕ)
 writeDigits A cs = demand (leb (length cs) 255) 11 (length cs ∷ []) (mapped pack (each (λ c. written c (A .half c)) cs))
+
+-- A character's half octet, or 16 where it has none: what a function of the code answers.
+abbrev pub nibble : Alphabet → ℕ → ℕ
+nibble A c = Option·getD (A .half c) 16

@@ -3,7 +3,7 @@ use Prim.Native.Nat.{ℕ, zero, suc, _+_, _-_, _*_}
 use mathlib.Core.List.{List, [], _∷_, map}
 use lib.ListN.{length, getD, take, drop}
 use lib.Dec.{leb, ltb}
-use Rattle.bcd.specs.Outcome.{Outcome, accepted, refused, pick, after, demand, mapped}
+use Rattle.bcd.specs.Outcome.{Outcome, accepted, pick, after, demand, mapped}
 use Rattle.bcd.specs.Answers.{refusalOf}
 use Rattle.parameter.specs.Parameter.{Param, paddedLength}
 use Rattle.parameter.specs.declared.Place.{Place}

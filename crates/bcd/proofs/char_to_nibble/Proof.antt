@@ -1,6 +1,6 @@
 -- `bcd::char_to_nibble` meets its contract: each arm's character has that half octet.
-use mathlib.Core.Path.{_≡_, sym, ap}
-use mathlib.Core.Logic.{_⊎_, inl, inr, ⊎-elim}
+use mathlib.Core.Path.{sym, ap}
+use mathlib.Core.Logic.{inl, inr, ⊎-elim}
 use native.Mathlib.Omega.{arith}
 use Rattle.bcd.specs.Digits.{nibble, builtIn}
 use Rattle.bcd.proofs.Characters.{nibble-decimal, nibble-none}

@@ -1,14 +1,9 @@
 -- `bcd::decode_gt_digits` meets its contract.
-use native.Mathlib.Omega.{arith}
 use Rattle.bcd.specs.Digits.{builtIn}
 use Rattle.bcd.proofs.Reading.{reading-refused, reading-done}
 use borrow.Author.Needs.{needs}
 use Rattle.bcd.proofs.decode_gt_digits.Statement.{statement}
 use Rattle.bcd.proofs.decode_gt_digits.Tie as tie
-use Rattle.bcd.proofs.decode_gt_digits.Reads as reads
-use Rattle.bcd.proofs.decode_gt_digits.Lts as lts
-use Rattle.bcd.proofs.smaller.Reads as smaller-reads
-use Rattle.bcd.proofs.unpack_digits.Reads as unpack-digits-reads
 
 returns : tie.Need-returns
 returns c = let a = c .before .before .args in reading-refused builtIn (a .bytes .now) (a .num-digits) _ (c .if1 .taken)

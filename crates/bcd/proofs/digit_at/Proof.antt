@@ -1,13 +1,10 @@
 -- `bcd::digit_at` meets its contract, at an even and at an odd place.
-use mathlib.Core.Path.{_≡_, ap, _∙_}
+use mathlib.Core.Path.{ap, _∙_}
 use Rattle.bcd.specs.Digits.{builtIn}
 use Rattle.bcd.proofs.Reading.{half-even, half-odd}
 use borrow.Author.Needs.{needs}
 use Rattle.bcd.proofs.digit_at.Statement.{statement}
 use Rattle.bcd.proofs.digit_at.Tie as tie
-use Rattle.bcd.proofs.digit_at.Reads as reads
-use Rattle.bcd.proofs.digit_at.Lts as lts
-use Rattle.bcd.proofs.nibble_to_char.Reads as nibble-to-char-reads
 
 shared-slice-read-byte : tie.Need-shared-slice-read-byte
 shared-slice-read-byte c = search needs

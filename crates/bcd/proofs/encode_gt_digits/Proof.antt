@@ -8,10 +8,6 @@ use Rattle.bcd.proofs.Outcomes.{deliver-too-long, deliver-passed-on}
 use borrow.Author.Needs.{needs}
 use Rattle.bcd.proofs.encode_gt_digits.Statement.{statement}
 use Rattle.bcd.proofs.encode_gt_digits.Tie as tie
-use Rattle.bcd.proofs.encode_gt_digits.Reads as reads
-use Rattle.bcd.proofs.encode_gt_digits.Lts as lts
-use Rattle.bcd.proofs.gt_digits_length.Reads as gt-digits-length-reads
-use Rattle.bcd.proofs.pack_digits.Reads as pack-digits-reads
 
 counted : (c : tie.After-known-told2) → accepted (c .before .n .given .0 .0) ≡ mapped length (writeDigits builtIn (c .before .before .before .before .before .before .args .digits .now))
 counted c = sym (ap countedOf (c .before .n .given .1)) ∙ c .before .before .before .gt-digits-length .ensures

@@ -1,7 +1,7 @@
 -- `bcd::gt_digits_length` meets its contract: the loop has checked the first i digits.
 use borrow.Author.Needs.{needs}
 use Prim.Native.Nat.{_≤_, _<_, _-_}
-use mathlib.Core.Path.{_≡_, refl, sym, ap, _∙_}
+use mathlib.Core.Path.{refl, sym, ap, _∙_}
 use native.Mathlib.Omega.{arith}
 use lib.ListN.{length, getD}
 use Rattle.bcd.specs.Outcome.{mapped, accepted}
@@ -10,9 +10,6 @@ use Rattle.bcd.proofs.Characters.{builtIn-lawful}
 use Rattle.bcd.proofs.Writable.{Checked, too-many, checked-more, checked-bad, checked-all, packed-length}
 use Rattle.bcd.proofs.gt_digits_length.Statement.{statement}
 use Rattle.bcd.proofs.gt_digits_length.Tie as tie
-use Rattle.bcd.proofs.gt_digits_length.Reads as reads
-use Rattle.bcd.proofs.gt_digits_length.Lts as lts
-use Rattle.bcd.proofs.char_to_nibble.Reads as char-to-nibble-reads
 
 abbrev Inv-loop : tie.InvT-loop
 Inv-loop digits n i₀ i = (i ≤ n) × Checked builtIn digits i

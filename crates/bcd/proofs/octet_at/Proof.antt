@@ -1,5 +1,5 @@
 -- `bcd::octet_at` meets its contract, for two digits and for an odd last one.
-use mathlib.Core.Path.{_≡_, ap₂, _∙_}
+use mathlib.Core.Path.{ap₂, _∙_}
 use Prim.Native.Nat.{ℕ, _+_, _*_, _≤_}
 use native.Mathlib.Omega.{arith}
 use lib.ListN.{getD}
@@ -9,9 +9,6 @@ use Rattle.bcd.proofs.Reading.{octet-two, octet-one}
 use borrow.Author.Needs.{needs}
 use Rattle.bcd.proofs.octet_at.Statement.{statement}
 use Rattle.bcd.proofs.octet_at.Tie as tie
-use Rattle.bcd.proofs.octet_at.Reads as reads
-use Rattle.bcd.proofs.octet_at.Lts as lts
-use Rattle.bcd.proofs.char_to_nibble.Reads as char-to-nibble-reads
 
 -- the two half octets
 low : (c : tie.After-char-to-nibble) → nibble builtIn (getD (c .before .before .before .args .digits .now) (2 * c .before .before .before .args .k) 0) ≤ 15

@@ -1,20 +1,17 @@
 -- `bcd::pack_digits` meets its contract: the loop has stored the first k octets.
 use borrow.Author.Needs.{needs}
 use Prim.Native.Nat.{ℕ, _+_, _≤_, _-_}
-use mathlib.Core.Path.{_≡_, refl, sym, ap, _∙_, subst}
-use mathlib.Core.List.{List, map}
+use mathlib.Core.Path.{sym, subst}
+use mathlib.Core.List.{map}
 use native.Mathlib.Omega.{arith}
-use lib.ListN.{length, take, set}
+use lib.ListN.{take, set}
 use lib.Seq.{take-all}
 use Rattle.bcd.specs.Digits.{pack, nibble, builtIn}
 use Rattle.bcd.proofs.Characters.{builtIn-lawful}
-use Rattle.bcd.proofs.Writing.{Begun, untouched, store-next, delivered}
+use Rattle.bcd.proofs.Writing.{Begun, store-next, delivered}
 use Rattle.bcd.proofs.Writable.{Good, write-inv, packed-length}
 use Rattle.bcd.proofs.pack_digits.Statement.{statement}
 use Rattle.bcd.proofs.pack_digits.Tie as tie
-use Rattle.bcd.proofs.pack_digits.Reads as reads
-use Rattle.bcd.proofs.pack_digits.Lts as lts
-use Rattle.bcd.proofs.octet_at.Reads as octet-at-reads
 
 abbrev Inv-loop : tie.InvT-loop
 Inv-loop digits n out₀ k₀ out k = (k ≤ n) × Begun out₀ (take k (pack (map (nibble builtIn) digits))) out

@@ -1,19 +1,15 @@
 -- `bcd::unpack_digits` meets its contract: the loop has stored the first i digits.
 use borrow.Author.Needs.{needs}
 use Prim.Native.Nat.{ℕ, _+_, _≤_, _-_}
-use mathlib.Core.Path.{_≡_, refl, sym, ap, _∙_, subst}
-use mathlib.Core.List.{List}
+use mathlib.Core.Path.{sym, _∙_, subst}
 use native.Mathlib.Omega.{arith}
-use lib.ListN.{length, take, set}
+use lib.ListN.{take, set}
 use lib.Seq.{take-all}
 use Rattle.bcd.specs.Digits.{builtIn, digitsIn}
-use Rattle.bcd.proofs.Writing.{Begun, untouched, store-next, delivered}
+use Rattle.bcd.proofs.Writing.{Begun, store-next, delivered}
 use Rattle.bcd.proofs.Reading.{digits-length, digits-at}
 use Rattle.bcd.proofs.unpack_digits.Statement.{statement}
 use Rattle.bcd.proofs.unpack_digits.Tie as tie
-use Rattle.bcd.proofs.unpack_digits.Reads as reads
-use Rattle.bcd.proofs.unpack_digits.Lts as lts
-use Rattle.bcd.proofs.digit_at.Reads as digit-at-reads
 
 abbrev Inv-loop : tie.InvT-loop
 Inv-loop bytes n out₀ i₀ out i = (i ≤ n) × Begun out₀ (take i (digitsIn builtIn bytes n)) out

@@ -32,6 +32,15 @@ pub demand-inv : {A : Type 0} {a : A} (t : Bool) (n : ℕ) (vs : List ℕ) (o : 
 demand-inv true n vs o e = (refl, e)
 demand-inv false n vs o e = absurd (never e)
 
+-- what goes on after a demand, after all
+pub after-demand : {A B : Type 0} (t : Bool) (n : ℕ) (vs : List ℕ) (o : Outcome A) (f : A → Outcome B) → after (demand t n vs o) f ≡ demand t n vs (after o f)
+after-demand true n vs o f = refl
+after-demand false n vs o f = refl
+
+pub mapped-demand : {A B : Type 0} (t : Bool) (n : ℕ) (vs : List ℕ) (f : A → B) (o : Outcome A) → mapped f (demand t n vs o) ≡ demand t n vs (mapped f o)
+mapped-demand true n vs f o = refl
+mapped-demand false n vs f o = refl
+
 -- two numbers are in order, or the other way round
 pub le-or-lt : (a b : ℕ) → (a ≤ b) ⊎ (b < a)
 le-or-lt a b = told (leb a b) refl

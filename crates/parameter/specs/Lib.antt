@@ -1,3 +1,4 @@
 pub mod Parameter
 pub mod Walk
 pub mod Table
+pub mod Answers

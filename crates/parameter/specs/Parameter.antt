@@ -1,9 +1,10 @@
 -- One parameter on the wire, and a run of them (RFC 3868, 3.1.5).
 use Prim.Native.Nat.{ℕ, _+_, _-_, _*_, _/_, _%_, _≤_, _<_}
 use mathlib.Core.List.{List, [], _∷_, _++_}
-use lib.ListN.{length, replicate}
+use mathlib.Core.Option.{Option, none, some}
+use lib.ListN.{length, getD, replicate}
 use lib.Dec.{leb}
-use Rattle.bcd.specs.Outcome.{Outcome, accepted, demand, after, each, Octets, most, fit64}
+use Rattle.bcd.specs.Outcome.{Outcome, accepted, pick, demand, after, each, Octets, most, fit64}
 
 -- A parameter is a tag and a value (RFC 3868, 3.1.5).
 pub record Param : Type 0 where
@@ -47,6 +48,17 @@ mostValue = 65531
 -- Writing one parameter: a value above 65,531 octets is refused as 10.
 unfoldable pub encodeParam : Param → Outcome (List ℕ)
 encodeParam p = demand (leb (length (p .value)) mostValue) 10 (p .tag ∷ length (p .value) ∷ []) (accepted (paramOctets p))
+
+-- What a parameter with a value of n octets takes on the wire; 10 above 65,531 (document 01, 'Order').
+unfoldable pub wireLength : (tag n : ℕ) → Outcome ℕ
+wireLength tag n = demand (leb n mostValue) 10 (tag ∷ n ∷ []) (accepted (paddedLength n))
+
+-- The first four octets of a value as a number, the high octet first; none under four (RFC 3868, 3.1; document 01, 'Order').
+unfoldable pub numberIn : List ℕ → Option ℕ
+numberIn v =
+    pick (leb 4 (length v))
+    (some (getD v 0 0 * 16777216 + getD v 1 0 * 65536 + getD v 2 0 * 256 + getD v 3 0))
+    none
 
 -- Octets written are at most 1,048,576, else 12.
 abbrev pub writable : List ℕ → Outcome (List ℕ)

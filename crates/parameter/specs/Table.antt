@@ -1,9 +1,10 @@
 -- Records in three lent slices of numbers: tag, start and length (document 01, 'Rust forms that cannot stay').
 use Prim.Native.Nat.{ℕ, _+_, min}
 use mathlib.Core.List.{List, [], _∷_, _++_, map}
+use mathlib.Core.Option.{Option, none, some}
 use lib.ListN.{length, take, drop}
-use lib.Dec.{leb}
-use Rattle.bcd.specs.Outcome.{Outcome, accepted, refused, pick, demand, each}
+use lib.Dec.{leb, eqb}
+use Rattle.bcd.specs.Outcome.{Outcome, accepted, refused, pick, after, demand, each}
 use Rattle.parameter.specs.Parameter.{Param}
 use Rattle.parameter.specs.Walk.{valued}
 use Rattle.parameter.specs.declared.Place.{Place}
@@ -59,3 +60,14 @@ unfoldable pub records : List ℕ → Table → (count : ℕ) → Outcome (List 
 records values t count =
     demand (leb count (room t)) 15 []
     (each (recordIn values) (take count (rows (t .tags) (t .starts) (t .lengths))))
+
+-- The first record with a tag (document 01, module 2).
+abbrev pub firstWith : ℕ → List Place → Option Place
+firstWith tag [] = none
+firstWith tag (p ∷ ps) = pick (eqb (p .tag) tag) (some p) (firstWith tag ps)
+
+-- Finding by tag: 15 looks at every record (document 01, 'Order'; docs/DECISIONS.md, point 6).
+unfoldable pub findParam : List ℕ → Table → (count tag : ℕ) → Outcome (Option Place)
+findParam values t count tag =
+    after (records values t count) (λ ps.
+    accepted (firstWith tag (take count (rows (t .tags) (t .starts) (t .lengths)))))

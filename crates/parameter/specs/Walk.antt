@@ -1,14 +1,11 @@
 -- A run of parameters, walked from a position (RFC 3868, 3.1.5).
-use Prim.Native.Nat.{ℕ, zero, suc, _+_, _-_, _*_}
+use Prim.Native.Nat.{ℕ, zero, suc, _+_, _-_, _*_, min}
 use mathlib.Core.List.{List, [], _∷_, map}
 use lib.ListN.{length, getD, take, drop}
 use lib.Dec.{leb, ltb}
-use Rattle.bcd.specs.Outcome.{Outcome, accepted, pick, after, demand, mapped}
-use Rattle.bcd.specs.Answers.{refusalOf}
+use Rattle.bcd.specs.Outcome.{Outcome, accepted, refused, pick, after, demand, mapped}
 use Rattle.parameter.specs.Parameter.{Param, paddedLength}
 use Rattle.parameter.specs.declared.Place.{Place}
-use Rattle.parameter.specs.declared.Step.{Step}
-use Rattle.parameter.specs.declared.Step.the-variants as S
 
 -- What stands at a position: no more parameters, or a parameter's place and where the next one starts.
 pub data Walked : Type 0 where
@@ -56,8 +53,15 @@ valued xs p = record { tag = p .tag; value = take (p .length) (drop (p .start) x
 unfoldable pub parameters : List ℕ → Outcome (List Param)
 parameters xs = mapped (map (valued xs)) (places xs 0)
 
--- Which outcome each answer of the cursor is.
-abbrev pub stepOf : Step → Outcome Walked
-stepOf (S.Parameter p c) = accepted (found p (c .at))
-stepOf S.End = accepted ended
-stepOf (S.Refused r) = refusalOf r
+-- One parameter, with the octets that it took: its padded length, or all there are where its padding is missing.
+pub record Taken : Type 0 where
+  pub place : Place
+  pub consumed : ℕ
+
+-- Reading the parameter at the front: under four octets are 1, then 5 or 6 (document 01, 'Order').
+abbrev pub taken : List ℕ → Walked → Outcome Taken
+taken xs ended = refused 1 (4 ∷ length xs ∷ [])
+taken xs (found p next) = accepted (record { place = p; consumed = min next (length xs) })
+
+unfoldable pub decodeParam : List ℕ → Outcome Taken
+decodeParam xs = after (stepAt xs 0) (taken xs)

@@ -5,3 +5,5 @@ pub mod Padding
 pub mod RoundTrip
 pub mod Reading
 pub mod Encoding
+pub mod Reaching
+pub mod Filling

@@ -204,3 +204,105 @@ pub fn encode(tag: u16, value: &[u8], out: &mut [u8]) -> Counted
         }
     }
 }
+
+// How many parameters there are from a position on. 12, then 5 or 6.
+fn count(bytes: &[u8], from: usize) -> Counted
+    ensures { λ r. ⌜ countedOf r ≡ mapped length (bounded (now (bytes .entry)) (places (now (bytes .entry)) from)) ⌝ }
+{
+    if 1048576 < bytes.len() {
+        return Counted::Refused(Refusal::TooManyOctets(bytes.len()));
+    }
+    let mut c = Cursor { at: from };
+    let mut n: usize = 0;
+    while n < bytes.len() {
+        match c.step(bytes) {
+            Step::Parameter(_, next) => {
+                c = next;
+                n = n + 1;
+            }
+            Step::End => {
+                return Counted::Count(n);
+            }
+            Step::Refused(r) => {
+                return Counted::Refused(r);
+            }
+        }
+    }
+    Counted::Count(n)
+}
+
+// Stores the places of all parameters from a position on, of which there are `count`.
+fn fill(
+    bytes: &[u8],
+    from: usize,
+    count: usize,
+    tags: &mut [u16],
+    starts: &mut [usize],
+    lengths: &mut [usize],
+)
+    requires { ⌜ accepted count ≡ mapped length (bounded (now bytes) (places (now bytes) from)) ⌝ }
+    requires { ⌜ count ≤ length (now tags) ⌝ }
+    requires { ⌜ count ≤ length (now starts) ⌝ }
+    requires { ⌜ count ≤ length (now lengths) ⌝ }
+    ensures { λ _. ⌜ record { answer = accepted count; table = record { tags = now (tags .exit); starts = now (starts .exit); lengths = now (lengths .exit) } } ≡ tabulate (bounded (now (bytes .entry)) (places (now (bytes .entry)) from)) (record { tags = now (tags .entry); starts = now (starts .entry); lengths = now (lengths .entry) }) ⌝ }
+{
+    let mut c = Cursor { at: from };
+    let mut n: usize = 0;
+    while n < count {
+        match c.step(bytes) {
+            Step::Parameter(p, next) => {
+                tags[n] = p.tag;
+                starts[n] = p.start;
+                lengths[n] = p.length;
+                c = next;
+                n = n + 1;
+            }
+            Step::End => {
+                return;
+            }
+            Step::Refused(_) => {
+                return;
+            }
+        }
+    }
+}
+
+// Reads the run of parameters from a position on into three lent slices. 12, then 5 or 6 in wire order, then 13.
+pub fn decode_parameters_from(
+    bytes: &[u8],
+    from: usize,
+    tags: &mut [u16],
+    starts: &mut [usize],
+    lengths: &mut [usize],
+) -> Counted
+    ensures { λ r. ⌜ record { answer = countedOf r; table = record { tags = now (tags .exit); starts = now (starts .exit); lengths = now (lengths .exit) } } ≡ tabulate (bounded (now (bytes .entry)) (places (now (bytes .entry)) from)) (record { tags = now (tags .entry); starts = now (starts .entry); lengths = now (lengths .entry) }) ⌝ }
+{
+    match count(bytes, from) {
+        Counted::Refused(r) => Counted::Refused(r),
+        Counted::Count(n) => {
+            if tags.len() < n {
+                return Counted::Refused(Refusal::TableTooSmall(n));
+            }
+            if starts.len() < n {
+                return Counted::Refused(Refusal::TableTooSmall(n));
+            }
+            if lengths.len() < n {
+                return Counted::Refused(Refusal::TableTooSmall(n));
+            }
+            fill(bytes, from, n, tags, starts, lengths);
+            Counted::Count(n)
+        }
+    }
+}
+
+// Reads a run of parameters into three lent slices: each one's tag, and where its value starts and how long it is.
+pub fn decode_parameters(
+    bytes: &[u8],
+    tags: &mut [u16],
+    starts: &mut [usize],
+    lengths: &mut [usize],
+) -> Counted
+    ensures { λ r. ⌜ record { answer = countedOf r; table = record { tags = now (tags .exit); starts = now (starts .exit); lengths = now (lengths .exit) } } ≡ tabulate (bounded (now (bytes .entry)) (places (now (bytes .entry)) 0)) (record { tags = now (tags .entry); starts = now (starts .entry); lengths = now (lengths .entry) }) ⌝ }
+{
+    decode_parameters_from(bytes, 0, tags, starts, lengths)
+}

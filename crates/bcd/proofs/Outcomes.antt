@@ -1,11 +1,13 @@
 -- The laws of outcomes, of `each`, of `deliver` and of octet strings.
-use Prim.Native.Nat.{ℕ, zero, suc, _≤_, _<_}
+use Prim.Native.Nat.{ℕ, zero, suc, _+_, _≤_, _<_}
 use mathlib.Core.Path.{_≡_, refl, sym, ap, _∙_}
 use mathlib.Core.Bool.{Bool, true, false}
 use mathlib.Core.Logic.{_⊎_, inl, inr}
-use mathlib.Core.List.{List, [], _∷_, _++_, append-assoc}
+use mathlib.Core.List.{List, [], _∷_, _++_, append-assoc, append-nil}
 use native.Mathlib.Omega.{arith}
-use lib.ListN.{length, getD, take, drop, replicate}
+use native.Mathlib.Numerals.{add-one}
+use lib.ListN.{length, getD, take, drop, replicate, take-append-drop}
+use lib.Seq.{take-suc, split-at}
 use lib.Dec.{leb}
 use borrow.Author.Tests.{le-leb, lt-leb, leb-true, leb-false}
 use Rattle.bcd.specs.Outcome.{Outcome, accepted, refused, after, demand, mapped, each, All, Octets, most, bounded, Delivered, deliver}
@@ -99,6 +101,36 @@ module _ {A B : Type 0} (f : A → Outcome (List B)) where
   each-refused (x ∷ xs) y ys us n vs e h =
       let (s, t, hs, ht, j) = each-inv x xs us e in
       rw (hs, each-refused xs y ys t n vs ht h)
+
+  -- a list gone through from its front: one element more, and the first that is refused
+  pub each-more :
+      (xs : List A) (i : ℕ) (d : A) (us vs : List B)
+      → i < length xs
+      → each f (take i xs) ≡ accepted us
+      → f (getD xs i d) ≡ accepted vs
+      → each f (take (i + 1) xs) ≡ accepted (us ++ vs)
+  each-more xs i d us vs h e k =
+      let t : take (i + 1) xs ≡ take i xs ++ (getD xs i d ∷ []) = rw add-one (take-suc xs i d h) in
+      let one : each f (getD xs i d ∷ []) ≡ accepted vs = rw (k, append-nil) in
+      ap (each f) t ∙ each-append (take i xs) (getD xs i d ∷ []) us vs e one
+
+  pub each-stopped :
+      (xs : List A) (i : ℕ) (d : A) (us : List B) (n : ℕ) (vs : List ℕ)
+      → i < length xs
+      → each f (take i xs) ≡ accepted us
+      → f (getD xs i d) ≡ refused n vs
+      → each f xs ≡ refused n vs
+  each-stopped xs i d us n vs h e k = ap (each f) (split-at xs i d h) ∙ each-refused (take i xs) (getD xs i d) (drop (suc i) xs) us n vs e k
+
+  -- what the front of a list gives is the front of what the list gives
+  pub each-front :
+      (xs : List A) (i : ℕ) (us os : List B)
+      → each f (take i xs) ≡ accepted us
+      → each f xs ≡ accepted os
+      → (vs : List B) × (us ++ vs ≡ os)
+  each-front xs i us os e k =
+      let (u, v, hu, hv, j) = each-split (take i xs) (drop i xs) os (ap (each f) (take-append-drop i xs) ∙ k) in
+      (v, ap (λ l. l ++ v) (accepted-inj (sym e ∙ hu)) ∙ j)
 
 pub all-append : {A : Type 0} (P : A → Type 0) (xs ys : List A) → All P xs → All P ys → All P (xs ++ ys)
 all-append P [] ys h k = k

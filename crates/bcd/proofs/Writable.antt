@@ -1,17 +1,17 @@
 -- Digits that are written: how far a check has come, and what is written in the end.
-use Prim.Native.Nat.{ℕ, suc, _+_, _/_, _≤_, _<_}
+use Prim.Native.Nat.{ℕ, _+_, _/_, _≤_, _<_}
 use mathlib.Core.Path.{_≡_, refl, sym, ap, ap₂, _∙_}
 use mathlib.Core.Option.{Option, none, some, Option·getD}
 use mathlib.Core.List.{List, [], _∷_, _++_, map, map-append}
 use native.Mathlib.Omega.{arith}
 use native.Mathlib.Numerals.{add-one}
-use lib.ListN.{length, getD, take, drop, length-map}
-use lib.Seq.{take-suc, take-all, split-at}
+use lib.ListN.{length, getD, take, length-map}
+use lib.Seq.{take-suc, take-all}
 use lib.Dec.{leb}
 use borrow.Author.Tests.{le-leb, lt-leb}
 use Rattle.bcd.specs.Outcome.{Outcome, accepted, refused, mapped, each, All}
 use Rattle.bcd.specs.Digits.{Alphabet, Lawful, pack, nibble, written, writeDigits}
-use Rattle.bcd.proofs.Outcomes.{accepted-inj, never, mapped-inv, demand-inv, each-inv, each-append, each-refused}
+use Rattle.bcd.proofs.Outcomes.{accepted-inj, never, mapped-inv, demand-inv, each-inv, each-more, each-stopped}
 use Rattle.bcd.proofs.Halves.{pack-length}
 
 -- the half octets that characters are written as, or the first refusal
@@ -58,17 +58,14 @@ module _ (A : Alphabet) (L : Lawful A) (cs : List ℕ) (i : ℕ) (h : i < length
   pub checked-more : nibble A (getD cs i 0) ≤ 15 → Checked A cs (i + 1)
   checked-more good =
       let e : take (i + 1) cs ≡ take i cs ++ (getD cs i 0 ∷ []) = rw add-one (take-suc cs i 0 h) in
-      let one : nibbles A (getD cs i 0 ∷ []) ≡ accepted (nibble A (getD cs i 0) ∷ []) = rw (written-digit A (getD cs i 0) good) in
-      rw (e, map-append (nibble A) (take i cs) (getD cs i 0 ∷ []))
-      (each-append (λ c. written c (A .half c)) (take i cs) (getD cs i 0 ∷ []) (map (nibble A) (take i cs)) (nibble A (getD cs i 0) ∷ []) so-far one)
+      each-more (λ c. written c (A .half c)) cs i 0 _ _ h so-far (written-digit A (getD cs i 0) good)
+      ∙ ap accepted (sym (ap (map (nibble A)) e ∙ map-append (nibble A) (take i cs) (getD cs i 0 ∷ [])))
 
   -- the first that is no digit
   pub checked-bad : length cs ≤ 255 → 15 < nibble A (getD cs i 0) → writeDigits A cs ≡ refused 9 (getD cs i 0 ∷ [])
   checked-bad small bad =
       some-bad A cs 9 (getD cs i 0 ∷ []) small
-      (ap (nibbles A) (split-at cs i 0 h)
-      ∙ each-refused (λ c. written c (A .half c)) (take i cs) (getD cs i 0) (drop (suc i) cs) (map (nibble A) (take i cs)) 9 (getD cs i 0 ∷ [])
-      so-far (written-none A L (getD cs i 0) bad))
+      (each-stopped (λ c. written c (A .half c)) cs i 0 _ 9 _ h so-far (written-none A L (getD cs i 0) bad))
 
 -- all of them
 pub checked-all : (A : Alphabet) (cs : List ℕ) (i : ℕ) → Checked A cs i → length cs ≤ i → length cs ≤ 255 → writeDigits A cs ≡ accepted (pack (map (nibble A) cs))

@@ -1,5 +1,5 @@
 -- One parameter: the cases of its definitions, and the buffer after each call of its writer.
-use Prim.Native.Nat.{ℕ, _+_, _-_, _*_, _/_, _≤_, _<_, min}
+use Prim.Native.Nat.{ℕ, _+_, _-_, _*_, _/_, _≤_, _<_}
 use mathlib.Core.Path.{_≡_, refl, sym, ap, _∙_}
 use mathlib.Core.Option.{none, some}
 use mathlib.Core.List.{List, [], _∷_, _++_}
@@ -13,7 +13,7 @@ use Rattle.bcd.specs.Outcome.{Outcome, accepted, refused, after, demand, mapped
 use Rattle.bcd.proofs.Outcomes.{accepted-inj, demand-inv, after-demand, mapped-demand}
 use Rattle.bcd.proofs.Writing.{Begun, begin, extend, extend-all, delivered}
 use Rattle.parameter.specs.Parameter.{Param, two, paddedLength, paramOctets, mostValue, encodeParam, wireLength, numberIn}
-use Rattle.parameter.specs.Walk.{Walked, Taken, taken, stepAt, decodeParam}
+use Rattle.parameter.specs.Walk.{Walked, taken, stepAt, decodeParam}
 use Rattle.parameter.proofs.RoundTrip.{octets-length}
 
 pub wire-beyond : (tag n : ℕ) → mostValue < n → wireLength tag n ≡ refused 10 (tag ∷ n ∷ [])

@@ -7,3 +7,5 @@ pub mod Reading
 pub mod Encoding
 pub mod Reaching
 pub mod Filling
+pub mod Records
+pub mod Running

@@ -5,7 +5,7 @@ use bcd::error::Counted;
 use bcd::error::Refusal;
 ghost use mathlib.Core.Path.{_≡_};
 ghost use mathlib.Core.List.{List, [], _++_, map};
-ghost use Prim.Native.Nat.{_+_, _*_, _≤_, _<_};
+ghost use Prim.Native.Nat.{ℕ, _+_, _*_, _≤_};
 ghost use lib.ListN.{length, replicate, take, drop};
 ghost use Rattle.bcd.specs.Outcome.{accepted, refused, pick, after, mapped, each, bounded, fit64, deliver};
 ghost use Rattle.bcd.specs.Answers.{countedOf};
@@ -305,4 +305,151 @@ pub fn decode_parameters(
     ensures { λ r. ⌜ record { answer = countedOf r; table = record { tags = now (tags .exit); starts = now (starts .exit); lengths = now (lengths .exit) } } ≡ tabulate (bounded (now (bytes .entry)) (places (now (bytes .entry)) 0)) (record { tags = now (tags .entry); starts = now (starts .entry); lengths = now (lengths .entry) }) ⌝ }
 {
     decode_parameters_from(bytes, 0, tags, starts, lengths)
+}
+
+// The sum, or the largest number that 64 bits hold.
+fn saturating_add(a: usize, b: usize) -> usize
+    ensures { λ r. ⌜ r ≡ fit64 (a + b) ⌝ }
+{
+    let left = 18446744073709551615 - a;
+    if left < b {
+        18446744073709551615
+    } else {
+        a + b
+    }
+}
+
+// Whether the count, or a record, reaches outside its lent slice.
+fn outside(values: &[u8], tags: &[u16], starts: &[usize], lengths: &[usize], count: usize) -> bool
+    ensures { λ r. ⌜ records (now (values .entry)) (record { tags = now (tags .entry); starts = now (starts .entry); lengths = now (lengths .entry) }) count ≡ pick r (refused 15 []) (accepted (map (valued (now (values .entry))) (take count (rows (now (tags .entry)) (now (starts .entry)) (now (lengths .entry)))))) ⌝ }
+{
+    if tags.len() < count {
+        return true;
+    }
+    if starts.len() < count {
+        return true;
+    }
+    if lengths.len() < count {
+        return true;
+    }
+    let n = values.len();
+    let mut i = 0;
+    while i < count {
+        let start = starts[i];
+        if n < start {
+            return true;
+        }
+        if n - start < lengths[i] {
+            return true;
+        }
+        i += 1;
+    }
+    false
+}
+
+// What the parameters of a list of records take on the wire together. 15, then 10 in order.
+pub fn parameters_length(
+    values: &[u8],
+    tags: &[u16],
+    starts: &[usize],
+    lengths: &[usize],
+    count: usize,
+) -> Counted
+    ensures { λ r. ⌜ countedOf r ≡ mapped (λ (os : List ℕ). fit64 (length os)) (after (records (now (values .entry)) (record { tags = now (tags .entry); starts = now (starts .entry); lengths = now (lengths .entry) }) count) (each encodeParam)) ⌝ }
+{
+    if outside(values, tags, starts, lengths, count) {
+        return Counted::Refused(Refusal::OutsideSlice);
+    }
+    let mut total: usize = 0;
+    let mut i = 0;
+    while i < count {
+        let tag = tags[i];
+        let length = lengths[i];
+        if 65531 < length {
+            return Counted::Refused(Refusal::ValueTooLong { tag, length });
+        }
+        total = saturating_add(total, (length + 7) / 4 * 4);
+        i += 1;
+    }
+    Counted::Count(total)
+}
+
+// Writes the parameters of a list of records, which take `total` octets.
+fn write_run(
+    values: &[u8],
+    tags: &[u16],
+    starts: &[usize],
+    lengths: &[usize],
+    count: usize,
+    total: usize,
+    out: &mut [u8],
+)
+    requires { ⌜ accepted total ≡ mapped length (after (records (now values) (record { tags = now tags; starts = now starts; lengths = now lengths }) count) (each encodeParam)) ⌝ }
+    requires { ⌜ total ≤ length (now out) ⌝ }
+    ensures { λ _. ⌜ record { answer = accepted total; buffer = now (out .exit) } ≡ deliver (after (records (now (values .entry)) (record { tags = now (tags .entry); starts = now (starts .entry); lengths = now (lengths .entry) }) count) (each encodeParam)) (now (out .entry)) ⌝ }
+{
+    let mut at: usize = 0;
+    let mut i = 0;
+    while i < count {
+        let start = starts[i];
+        let length = lengths[i];
+        let end = start + length;
+        put(tags[i], &values[start..end], &mut out[at..]);
+        at = at + (length + 7) / 4 * 4;
+        i += 1;
+    }
+}
+
+// Writes the parameters of a list of records over a lent slice of values. 15, 10 in order, 12, 14.
+pub fn encode_parameters(
+    values: &[u8],
+    tags: &[u16],
+    starts: &[usize],
+    lengths: &[usize],
+    count: usize,
+    out: &mut [u8],
+) -> Counted
+    ensures { λ r. ⌜ record { answer = countedOf r; buffer = now (out .exit) } ≡ deliver (after (records (now (values .entry)) (record { tags = now (tags .entry); starts = now (starts .entry); lengths = now (lengths .entry) }) count) encodeParams) (now (out .entry)) ⌝ }
+{
+    match parameters_length(values, tags, starts, lengths, count) {
+        Counted::Refused(r) => Counted::Refused(r),
+        Counted::Count(n) => {
+            if 1048576 < n {
+                return Counted::Refused(Refusal::TooManyOctets(n));
+            }
+            if out.len() < n {
+                return Counted::Refused(Refusal::OutputTooSmall(n));
+            }
+            write_run(values, tags, starts, lengths, count, n, out);
+            Counted::Count(n)
+        }
+    }
+}
+
+// The first record with a tag. 15.
+pub fn find_parameter(
+    values: &[u8],
+    tags: &[u16],
+    starts: &[usize],
+    lengths: &[usize],
+    count: usize,
+    tag: u16,
+) -> Found
+    ensures { λ r. ⌜ foundOf r ≡ findParam (now (values .entry)) (record { tags = now (tags .entry); starts = now (starts .entry); lengths = now (lengths .entry) }) count tag ⌝ }
+{
+    if outside(values, tags, starts, lengths, count) {
+        return Found::Refused(Refusal::OutsideSlice);
+    }
+    let mut i = 0;
+    while i < count {
+        if tags[i] == tag {
+            return Found::At(Place {
+                tag: tags[i],
+                start: starts[i],
+                length: lengths[i],
+            });
+        }
+        i += 1;
+    }
+    Found::None
 }

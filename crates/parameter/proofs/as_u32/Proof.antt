@@ -12,9 +12,6 @@ use Rattle.parameter.proofs.Encoding.{number-short, number-four}
 use borrow.Author.Needs.{needs}
 use Rattle.parameter.proofs.as_u32.Statement.{statement}
 use Rattle.parameter.proofs.as_u32.Tie as tie
-use Rattle.parameter.proofs.as_u32.Reads as reads
-use Rattle.parameter.proofs.as_u32.Lts as lts
-use Rattle.parameter.proofs.be16.Reads as be16-reads
 
 within : (v : List ℕ) (o : Option ℕ) → length v ≤ most → o ≡ numberIn v → accepted o ≡ bounded v (accepted (numberIn v))
 within v o h e = ap accepted e ∙ sym (bounded-within v (accepted (numberIn v)) h)

@@ -1,21 +1,17 @@
 -- `parameter::count` meets its contract: the loop has walked n parameters.
 use borrow.Author.Needs.{needs}
-use Prim.Native.Nat.{ℕ, _-_, _≤_, _<_}
+use Prim.Native.Nat.{ℕ, _-_, _≤_}
 use mathlib.Core.Path.{_≡_, sym, ap, _∙_}
 use mathlib.Core.List.{List}
 use lib.ListN.{length}
-use Rattle.bcd.specs.Outcome.{Outcome, accepted, refused, mapped, most, bounded}
+use Rattle.bcd.specs.Outcome.{accepted, refused, mapped, most, bounded}
 use Rattle.bcd.proofs.Outcomes.{bounded-within, bounded-beyond}
-use Rattle.parameter.specs.declared.Place.{Place}
 use Rattle.parameter.specs.declared.Step.{Step}
 use Rattle.parameter.specs.Walk.{stepAt, places}
 use Rattle.parameter.specs.Answers.{stepOf}
 use Rattle.parameter.proofs.Reaching.{Reached, reached-start, reached-out, reached-next, reached-end, reached-refused}
 use Rattle.parameter.proofs.count.Statement.{statement}
 use Rattle.parameter.proofs.count.Tie as tie
-use Rattle.parameter.proofs.count.Reads as reads
-use Rattle.parameter.proofs.count.Lts as lts
-use Rattle.parameter.proofs.Cursor.step.Reads as step-reads
 
 abbrev Inv-loop : tie.InvT-loop
 Inv-loop bytes from c₀ n₀ c n = Reached bytes from n (c .at)

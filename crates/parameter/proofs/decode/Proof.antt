@@ -1,22 +1,15 @@
 -- `parameter::decode` meets its contract: it goes on from a step at the front.
 use mathlib.Core.Path.{_≡_, sym, ap, _∙_}
-use mathlib.Core.List.{List}
-use Prim.Native.Nat.{ℕ, _≤_, min}
+use Prim.Native.Nat.{ℕ}
 use native.Mathlib.Omega.{arith}
-use lib.ListN.{length}
-use Rattle.bcd.specs.Outcome.{Outcome, accepted, after, bounded}
-use Rattle.parameter.specs.Walk.{stepAt, taken, decodeParam, Taken}
+use Rattle.bcd.specs.Outcome.{accepted, after, bounded}
+use Rattle.parameter.specs.Walk.{stepAt, taken, decodeParam}
 use Rattle.parameter.specs.Answers.{stepOf}
-use Rattle.parameter.specs.declared.Place.{Place}
 use Rattle.parameter.specs.declared.Step.{Step}
 use Rattle.parameter.proofs.Encoding.{decode-step}
 use borrow.Author.Needs.{needs}
 use Rattle.parameter.proofs.decode.Statement.{statement}
 use Rattle.parameter.proofs.decode.Tie as tie
-use Rattle.parameter.proofs.decode.Reads as reads
-use Rattle.parameter.proofs.decode.Lts as lts
-use Rattle.parameter.proofs.Cursor.new.Reads as new-reads
-use Rattle.parameter.proofs.Cursor.step.Reads as step-reads
 
 stepped : (c : tie.After-step) (s : Step) → c .step .result ≡ s
     → after (stepOf s) (taken (c .before .before .before .args .bytes .now)) ≡ bounded (c .before .before .before .args .bytes .now) (decodeParam (c .before .before .before .args .bytes .now))

@@ -1,7 +1,6 @@
 -- `parameter::decode_parameters_from` meets its contract: the count that was answered is the definition's.
 use mathlib.Core.Path.{_≡_, sym, ap, _∙_}
 use mathlib.Core.List.{List}
-use Prim.Native.Nat.{ℕ}
 use lib.ListN.{length}
 use Rattle.bcd.specs.Outcome.{Outcome, accepted, mapped, bounded}
 use Rattle.bcd.specs.Answers.{countedOf}
@@ -11,10 +10,6 @@ use Rattle.parameter.proofs.Filling.{table-small, table-refused, small-
 use borrow.Author.Needs.{needs}
 use Rattle.parameter.proofs.decode_parameters_from.Statement.{statement}
 use Rattle.parameter.proofs.decode_parameters_from.Tie as tie
-use Rattle.parameter.proofs.decode_parameters_from.Reads as reads
-use Rattle.parameter.proofs.decode_parameters_from.Lts as lts
-use Rattle.parameter.proofs.count.Reads as count-reads
-use Rattle.parameter.proofs.fill.Reads as fill-reads
 
 abbrev walked : tie.Start → Outcome (List Place)
 walked s = bounded (s .args .bytes .now) (places (s .args .bytes .now) (s .args .from))

@@ -2,7 +2,7 @@
 use mathlib.Core.Path.{_≡_, sym, ap, _∙_}
 use native.Mathlib.Omega.{arith}
 use lib.ListN.{length}
-use Rattle.bcd.specs.Outcome.{accepted, mapped}
+use Rattle.bcd.specs.Outcome.{accepted}
 use Rattle.bcd.specs.Answers.{countedOf}
 use Rattle.bcd.proofs.Outcomes.{deliver-too-long, deliver-passed-on}
 use Rattle.parameter.specs.Parameter.{Param, encodeParam, wireLength}
@@ -10,10 +10,6 @@ use Rattle.parameter.proofs.Encoding.{wire-encode, wire-inv, put-delive
 use borrow.Author.Needs.{needs}
 use Rattle.parameter.proofs.encode.Statement.{statement}
 use Rattle.parameter.proofs.encode.Tie as tie
-use Rattle.parameter.proofs.encode.Reads as reads
-use Rattle.parameter.proofs.encode.Lts as lts
-use Rattle.parameter.proofs.put.Reads as put-reads
-use Rattle.parameter.proofs.wire_length.Reads as wire-length-reads
 
 abbrev start : tie.After-known-told2 → tie.Start
 start c = c .before .before .before .before .before .before

@@ -1,22 +1,18 @@
 -- `parameter::fill` meets its contract: the loop has stored n places.
 use borrow.Author.Needs.{needs}
-use Prim.Native.Nat.{ℕ, _-_, _≤_, _<_}
+use Prim.Native.Nat.{_-_, _≤_, _<_}
 use mathlib.Core.Path.{_≡_, sym, ap, _∙_}
-use mathlib.Core.List.{List}
 use native.Mathlib.Omega.{arith}
 use lib.ListN.{length}
-use Rattle.bcd.specs.Outcome.{Outcome, accepted, mapped, bounded}
+use Rattle.bcd.specs.Outcome.{accepted, mapped, bounded}
 use Rattle.bcd.proofs.Outcomes.{never, bounded-within}
 use Rattle.parameter.specs.declared.Step.{Step}
 use Rattle.parameter.specs.Walk.{stepAt, places}
 use Rattle.parameter.specs.Answers.{stepOf}
-use Rattle.parameter.proofs.Reaching.{Reached, counted-within, counted-places, same-count, reached-short, reached-all, reached-end, reached-refused}
+use Rattle.parameter.proofs.Reaching.{counted-within, counted-places, same-count, reached-short, reached-all, reached-end, reached-refused}
 use Rattle.parameter.proofs.Filling.{Filling, filling-start, filling-next, filled}
 use Rattle.parameter.proofs.fill.Statement.{statement}
 use Rattle.parameter.proofs.fill.Tie as tie
-use Rattle.parameter.proofs.fill.Reads as reads
-use Rattle.parameter.proofs.fill.Lts as lts
-use Rattle.parameter.proofs.Cursor.step.Reads as step-reads
 
 abbrev Inv-loop : tie.InvT-loop
 Inv-loop bytes from count tags₀ starts₀ lengths₀ c₀ n₀ tags starts lengths c n = (n ≤ count) × Filling bytes from tags₀ starts₀ lengths₀ tags starts lengths n (c .at)

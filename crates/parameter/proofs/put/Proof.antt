@@ -1,19 +1,14 @@
 -- `parameter::put` meets its contract: the buffer after each of its four calls.
-use Prim.Native.Nat.{ℕ, _+_, _*_, _/_}
-use mathlib.Core.Path.{_≡_, sym, ap, _∙_}
-use mathlib.Core.List.{List, _++_}
-use lib.ListN.{length, drop}
-use Rattle.parameter.specs.Parameter.{Param, paddedLength, paramOctets}
+use Prim.Native.Nat.{ℕ}
+use mathlib.Core.Path.{ap, _∙_}
+use mathlib.Core.List.{_++_}
+use lib.ListN.{drop}
+use Rattle.parameter.specs.Parameter.{Param, paramOctets}
 use Rattle.parameter.proofs.RoundTrip.{octets-length}
 use Rattle.parameter.proofs.Encoding.{after-tag, after-length, after-value, after-padding}
 use borrow.Author.Needs.{needs}
 use Rattle.parameter.proofs.put.Statement.{statement}
 use Rattle.parameter.proofs.put.Tie as tie
-use Rattle.parameter.proofs.put.Reads as reads
-use Rattle.parameter.proofs.put.Lts as lts
-use Rattle.bytes.proofs.copy.Reads as copy-reads
-use Rattle.parameter.proofs.clear.Reads as clear-reads
-use Rattle.parameter.proofs.put_two.Reads as put-two-reads
 
 add-wire : tie.Need-add-wire
 add-wire c = search needs

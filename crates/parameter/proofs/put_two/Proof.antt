@@ -3,8 +3,6 @@ use borrow.Author.Needs.{needs}
 use Rattle.parameter.proofs.Lists.{two-stored}
 use Rattle.parameter.proofs.put_two.Statement.{statement}
 use Rattle.parameter.proofs.put_two.Tie as tie
-use Rattle.parameter.proofs.put_two.Reads as reads
-use Rattle.parameter.proofs.put_two.Lts as lts
 
 cast-out : tie.Need-cast-out
 cast-out c = search needs

@@ -1,6 +1,6 @@
 -- `parameter::wire_length` meets its contract.
 use mathlib.Core.Path.{_≡_, sym, ap, _∙_}
-use Prim.Native.Nat.{ℕ, _+_, _*_, _/_}
+use Prim.Native.Nat.{_+_, _*_, _/_}
 use native.Mathlib.Omega.{arith}
 use Rattle.bcd.specs.Outcome.{accepted}
 use Rattle.parameter.specs.Parameter.{paddedLength}
@@ -8,8 +8,6 @@ use Rattle.parameter.proofs.Encoding.{wire-beyond, wire-within}
 use borrow.Author.Needs.{needs}
 use Rattle.parameter.proofs.wire_length.Statement.{statement}
 use Rattle.parameter.proofs.wire_length.Tie as tie
-use Rattle.parameter.proofs.wire_length.Reads as reads
-use Rattle.parameter.proofs.wire_length.Lts as lts
 
 returns : tie.Need-returns
 returns c = sym (wire-beyond (c .before .args .tag) (c .before .args .length) (c .if1 .taken))

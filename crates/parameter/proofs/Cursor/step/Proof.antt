@@ -12,9 +12,6 @@ use Rattle.parameter.specs.Walk.{Walked, stepAt}
 use Rattle.parameter.proofs.Walking.{second-two, step-end, step-invalid, step-beyond, step-found}
 use Rattle.parameter.proofs.Cursor.step.Statement.{statement}
 use Rattle.parameter.proofs.Cursor.step.Tie as tie
-use Rattle.parameter.proofs.Cursor.step.Reads as reads
-use Rattle.parameter.proofs.Cursor.step.Lts as lts
-use Rattle.parameter.proofs.be16.Reads as be16-reads
 
 within : (xs : List ℕ) (at : ℕ) (o : Outcome Walked) → length xs ≤ most → stepAt xs at ≡ o → o ≡ bounded xs (stepAt xs at)
 within xs at o b e = sym (bounded-within xs (stepAt xs at) b ∙ e)

@@ -1,0 +1,1 @@
+// SUA addresses: routing indicator, global title, point code, subsystem number (address.rs; RFC 3868, 3.10.2).

@@ -165,7 +165,7 @@ present f (some x) = f x ∷ []
 
 -- The order of writing: title, point code, SSN, others (document 01, module 3).
 unfoldable pub pieces : Address → List Piece
-pieces a = present title (a .title) ++ present code (a .code) ++ present sub (a .sub) ++ map other (a .others)
+pieces a = present title (a .title) ++ (present code (a .code) ++ (present sub (a .sub) ++ map other (a .others)))
 
 -- The sub-parameter that a piece is written as; a title refuses 11, 9 (RFC 3868, 3.10.2.3 to 3.10.2.5).
 unfoldable pub subParam : Alphabet → Piece → Outcome (List Param)

@@ -1,0 +1,3 @@
+pub mod Titles
+pub mod Pieces
+pub mod SubParams

@@ -1,3 +1,5 @@
 pub mod Titles
 pub mod Pieces
 pub mod SubParams
+pub mod Rewriting
+pub mod Writable

@@ -1,6 +1,6 @@
 -- Sub-parameters: what one that was read is, and that what it is written as is read back the same.
-use Prim.Native.Nat.{ℕ, _+_, _*_, _/_, _%_, _^_, _≤_, _<_}
-use mathlib.Core.Path.{_≡_, refl, sym, ap, ap₂, _∙_, subst}
+use Prim.Native.Nat.{ℕ, _^_, _≤_, _<_}
+use mathlib.Core.Path.{_≡_, refl, ap, _∙_, subst}
 use mathlib.Core.Bool.{Bool, true, false}
 use mathlib.Core.Logic.{_⊎_, inl, inr, ⊎-elim}
 use mathlib.Core.List.{List, [], _∷_, _++_}
@@ -8,13 +8,13 @@ use native.Mathlib.Omega.{arith}
 use borrow.Author.Tests.{leb-true, eqb-true, eqb-false, ne-eqb}
 use lib.Dec.{leb, eqb, lit<, lit≤}
 use lib.ListN.{length, getD}
-use Rattle.bcd.specs.Outcome.{Outcome, accepted, pick, mapped, each, All, Octets}
+use Rattle.bcd.specs.Outcome.{Outcome, accepted, pick, each, All, Octets}
 use Rattle.bcd.specs.Digits.{Alphabet, Lawful}
 use Rattle.bcd.proofs.Outcomes.{accepted-inj, mapped-inv, demand-inv, each-cons, each-inv, octets-at}
-use Rattle.parameter.specs.Parameter.{Param, two, paddedLength, runLength, mostValue, Fits}
+use Rattle.parameter.specs.Parameter.{Param, paddedLength, runLength, Fits}
 use Rattle.parameter.specs.Walk.{twoAt}
 use Rattle.address.specs.Address.{Title, titleIn, writeTitle, four, fourIn, Piece, title, code, sub, other, fourOctets, pieceIn, subParam}
-use Rattle.address.proofs.Titles.{titleLength, title-inv, title-digits, title-room, RewrittenTitle, title-rewritten}
+use Rattle.address.proofs.Titles.{title-inv, title-digits, title-room, title-rewritten}
 use Rattle.address.proofs.Pieces.{pieceLength, totalLength}
 
 -- The piece that a sub-parameter is.

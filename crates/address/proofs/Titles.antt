@@ -1,19 +1,19 @@
 -- Titles: what one that was read tells, and that it is read back the same from what it is written as.
-use Prim.Native.Nat.{ℕ, _+_, _-_, _/_, _≤_, _<_}
+use Prim.Native.Nat.{ℕ, _+_, _/_, _≤_, _<_}
 use mathlib.Core.Path.{_≡_, refl, sym, ap, _∙_, subst}
 use mathlib.Core.List.{List, [], _∷_, map}
 use native.Mathlib.Omega.{arith}
 use borrow.Author.Tests.{le-leb, leb-true}
 use lib.Dec.{leb, lit<}
 use lib.ListN.{length, getD, drop, length-drop}
-use Rattle.bcd.specs.Outcome.{Outcome, accepted, mapped, All, Octets}
-use Rattle.bcd.specs.Digits.{Alphabet, Lawful, nibble, pack, digitsIn, writeDigits}
-use Rattle.bcd.proofs.Outcomes.{accepted-inj, mapped-inv, demand-inv, all-drop, octets-at}
+use Rattle.bcd.specs.Outcome.{accepted, mapped, All, Octets, most}
+use Rattle.bcd.specs.Digits.{Alphabet, Lawful, nibble, digitsIn, writeDigits}
+use Rattle.bcd.proofs.Outcomes.{accepted-inj, mapped-inv, demand-inv, bounded-within, all-drop, octets-at}
 use Rattle.bcd.proofs.Halves.{Nibbles, pack-octets}
 use Rattle.bcd.proofs.Reading.{digits-length}
 use Rattle.bcd.proofs.Writable.{write-inv}
 use Rattle.bcd.proofs.Digits.{read-at-most, read-written-read}
-use Rattle.address.specs.Address.{Title, titleIn, titleOctets, writeTitle}
+use Rattle.address.specs.Address.{Title, titleIn, readTitle, titleOctets, writeTitle}
 
 -- What a title that was read tells.
 pub record HasTitle (A : Alphabet) (v : List ℕ) (t : Title) : Type 0 where
@@ -101,3 +101,17 @@ title-rewritten A L v w t o e d =
         ),
       );
     })
+
+pub title-read-back :
+    (A : Alphabet)
+    → Lawful A
+    → (v w : List ℕ) (t : Title)
+    → Octets v
+    → readTitle A v ≡ accepted t
+    → writeTitle A t ≡ accepted w
+    → readTitle A w ≡ accepted t
+unfolding readTitle
+title-read-back A L v w t o e d =
+    let (within, read) = demand-inv (leb (length v) most) _ _ _ e in
+    let r = title-rewritten A L v w t o read d in
+    bounded-within w (titleIn A w) (omega (arith, leb-true (length v) most within, r .room)) ∙ r .reads

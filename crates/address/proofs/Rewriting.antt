@@ -139,7 +139,8 @@ rewritten A L tag v w a o e d =
       reads = ap (addressIn A) (sym (k .octets)) ∙ octets-read A a qs (r .routing) (q .reads);
       size = k .size;
       room = omega (arith, r .room, r .long);
-      octets = subst Octets (k .octets) (omega (arith, r .routing), (omega (arith, r .routing), (omega arith, (omega arith, run-octets qs (q .fits)))));
+      octets = subst Octets (k .octets)
+          (omega (arith, r .routing), (omega (arith, r .routing), (omega arith, (omega arith, run-octets qs (q .fits)))));
     }
 
 pub address-read-back :
@@ -167,19 +168,20 @@ pub record IsRewritten (A : Alphabet) (v w : List ℕ) : Type 0 where
   pub read : addressIn A v ≡ accepted address
   pub rewritten : Rewritten A v w address
 
-pub rewrite-inv : (A : Alphabet) → Lawful A → (tag : ℕ) (v w : List ℕ) → Octets v → rewriteAddress A tag v ≡ accepted w → IsRewritten A v w
-unfolding rewriteAddress
-rewrite-inv A L tag v w o e =
-    let (a, ha, hw) = after-inv (addressIn A v) _ e in
-    record { address = a; read = ha; rewritten = rewritten A L tag v w a o ha hw }
+module _ (A : Alphabet) (L : Lawful A) (tag : ℕ) (v w : List ℕ) (o : Octets v) (e : rewriteAddress A tag v ≡ accepted w) where
+  pub rewrite-inv : IsRewritten A v w
+  unfolding rewriteAddress
+  rewrite-inv =
+      let (a, ha, hw) = after-inv (addressIn A v) _ e in
+      record { address = a; read = ha; rewritten = rewritten A L tag v w a o ha hw }
 
--- What is written reads as the value that was given.
-pub rewrite-reads : (A : Alphabet) → Lawful A → (tag : ℕ) (v w : List ℕ) → Octets v → rewriteAddress A tag v ≡ accepted w → addressIn A w ≡ addressIn A v
-rewrite-reads A L tag v w o e = let r = rewrite-inv A L tag v w o e in r .rewritten .reads ∙ sym (r .read)
+  -- What is written reads as the value that was given ..
+  pub rewrite-reads : addressIn A w ≡ addressIn A v
+  rewrite-reads = rewrite-inv .rewritten .reads ∙ sym (rewrite-inv .read)
 
--- What is written is written again as it stands.
-pub rewrite-again : (A : Alphabet) → Lawful A → (tag : ℕ) (v w : List ℕ) → Octets v → rewriteAddress A tag v ≡ accepted w → rewriteAddress A tag w ≡ accepted w
-rewrite-again A L tag v w o e = same-meaning A tag w v (rewrite-reads A L tag v w o e) ∙ e
+  -- .. and is written again as it stands.
+  pub rewrite-again : rewriteAddress A tag w ≡ accepted w
+  rewrite-again = same-meaning A tag w v rewrite-reads ∙ e
 
 -- Where two address values are written, the octets are the same exactly when the values mean the same.
 pub address-meaning :

@@ -119,15 +119,36 @@ unfolding pieceIn subParam
 piece-back A L p qs f (isTitle t h e) d =
     let (w, hw, same) = mapped-inv {B = List Param} (λ v. record { tag = 0x8001; value = v } ∷ []) (writeTitle A t) d in
     let r = title-rewritten A L (p .value) w t (f .octets) e hw in
-    let few = title-digits A (p .value) t (f .octets) (title-inv A (p .value) t e) in
-    (record { tag = 0x8001; value = w }, same, record { fits = record { tag = lit< tt; size = omega (arith, r .size); octets = r .octets }; reads = rw (r .reads); size = omega (arith, r .size) })
+    let few = title-digits A (p .value) t (f .octets) (title-inv A (p .value) t e) in (
+      record { tag = 0x8001; value = w },
+      same,
+      record {
+        fits = record { tag = lit< tt; size = omega (arith, r .size); octets = r .octets };
+        reads = rw (r .reads);
+        size = omega (arith, r .size);
+      },
+    )
 piece-back A L p qs f (isCode h l) d =
-    let n = fourIn (p .value) in
-    (record { tag = 0x8002; value = four n }, accepted-inj d, record { fits = record { tag = lit< tt; size = lit≤ tt; octets = four-octets n (four-small (p .value) (f .octets)) }; reads = rw (four-back n); size = refl })
+    let n = fourIn (p .value) in (
+      record { tag = 0x8002; value = four n },
+      accepted-inj d,
+      record {
+        fits = record { tag = lit< tt; size = lit≤ tt; octets = four-octets n (four-small (p .value) (f .octets)) };
+        reads = rw (four-back n);
+        size = refl;
+      },
+    )
 piece-back A L p qs f (isSub h l) d =
     let n = getD (p .value) 3 0 in
-    let zero : 0 < 256 = lit< tt in
-    (record { tag = 0x8003; value = 0 ∷ 0 ∷ 0 ∷ n ∷ [] }, accepted-inj d, record { fits = record { tag = lit< tt; size = lit≤ tt; octets = (zero, (zero, (zero, (octets-at (p .value) 3 (f .octets), tt)))) }; reads = refl; size = refl })
+    let small = octets-at (p .value) 3 (f .octets) in (
+      record { tag = 0x8003; value = 0 ∷ 0 ∷ 0 ∷ n ∷ [] },
+      accepted-inj d,
+      record {
+        fits = record { tag = lit< tt; size = lit≤ tt; octets = (lit< tt, (lit< tt, (lit< tt, (small, tt)))) };
+        reads = refl;
+        size = refl;
+      },
+    )
 piece-back A L p qs f (isOther n m k) d =
     (p, accepted-inj d, record { fits = f; reads = rw (ne-eqb _ _ n, ne-eqb _ _ m, ne-eqb _ _ k); size = refl })
 
@@ -137,7 +158,13 @@ pub record Written (A : Alphabet) (xs : List Piece) (qs : List Param) : Type 0 w
   pub reads : each (pieceIn A) qs ≡ accepted xs
   pub size : runLength qs ≡ totalLength xs
 
-pub pieces-written : (A : Alphabet) → Lawful A → (xs : List Piece) (qs : List Param) → All (Came A) xs → each (subParam A) xs ≡ accepted qs → Written A xs qs
+pub pieces-written :
+    (A : Alphabet)
+    → Lawful A
+    → (xs : List Piece) (qs : List Param)
+    → All (Came A) xs
+    → each (subParam A) xs ≡ accepted qs
+    → Written A xs qs
 unfolding runLength
 pieces-written A L [] qs cs e = subst (Written A []) (accepted-inj e) (record { fits = tt; reads = refl; size = refl })
 pieces-written A L (x ∷ xs) qs cs e =

@@ -84,22 +84,14 @@ title-rewritten A L v w t o e d =
     (read-written-read A L (drop 8 v) (getD v 4 0) os (all-drop (λ (x : ℕ). x < 256) 8 v o)) hw in
     let at : (i : ℕ) → getD v i 0 < 256 = λ i. octets-at v i o in
     let count = title-digits A v t o h in
-    let zero : 0 < 256 = lit< tt in
     let room = title-room A v t h in
+    let plan : Octets (t .np ∷ t .noa ∷ os) = (omega (arith, at 6, h .np), (omega (arith, at 7, h .noa), g .octets)) in
+    let rest : Octets (length (t .digits) ∷ t .tt ∷ t .np ∷ t .noa ∷ os) = (omega arith, (omega (arith, at 5, h .tt), plan)) in
     subst (λ w. RewrittenTitle A v w t) same (record {
       reads = rw (le-leb 8 (length (titleOctets t os)) (omega arith), back);
       size = omega (arith, g .count);
       room = omega (arith, g .count);
-      octets = (
-        zero,
-        (
-          zero,
-          (
-            zero,
-            (omega (arith, at 3, h .gti), (omega arith, (omega (arith, at 5, h .tt), (omega (arith, at 6, h .np), (omega (arith, at 7, h .noa), g .octets))))),
-          ),
-        ),
-      );
+      octets = (lit< tt, (lit< tt, (lit< tt, (omega (arith, at 3, h .gti), rest))));
     })
 
 pub title-read-back :

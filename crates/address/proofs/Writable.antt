@@ -78,7 +78,9 @@ KnownPiece x = Known (asTitle x)
 
 piece-writes : (x : Piece) → Came builtIn x → KnownPiece x → (qs : List Param) × (subParam builtIn x ≡ accepted qs)
 unfolding subParam
-piece-writes (title t) c k = let (w, hw) = title-writes (c .param .value) t (c .fits .octets) (has-title c) k in (_, ap (mapped {B = List Param} (λ v. record { tag = 0x8001; value = v } ∷ [])) hw)
+piece-writes (title t) c k =
+    let (w, hw) = title-writes (c .param .value) t (c .fits .octets) (has-title c) k in
+    (_, ap (mapped {B = List Param} (λ v. record { tag = 0x8001; value = v } ∷ [])) hw)
 piece-writes (code n) c k = (_, refl)
 piece-writes (sub n) c k = (_, refl)
 piece-writes (other p) c k = (_, refl)
@@ -137,7 +139,11 @@ module _ (tag : ℕ) (v : List ℕ) (a : Address) (o : Octets v) (e : addressIn 
       others (p ∷ ps) = (tt, others ps)
 
   -- The title is known, or refused before all else.
-  title-refused : (t : Title) (xs : List Piece) (n : ℕ) (vs : List ℕ) → pieces a ≡ title t ∷ xs → writeTitle builtIn t ≡ refused n vs → writeAddress builtIn tag a ≡ refused n vs
+  title-refused :
+      (t : Title) (xs : List Piece) (n : ℕ) (vs : List ℕ)
+      → pieces a ≡ title t ∷ xs
+      → writeTitle builtIn t ≡ refused n vs
+      → writeAddress builtIn tag a ≡ refused n vs
   unfolding writeAddress subParam
   title-refused t xs n vs h r = rw (h, r)
 
@@ -153,14 +159,16 @@ module _ (tag : ℕ) (v : List ℕ) (a : Address) (o : Octets v) (e : addressIn 
       go (some t) h =
           let came : All (Came builtIn) (present title (some t) ++ rest) = rw h at (readable builtIn v a o e .came) in
           let c = came .0 in
-          ⊎-elim (λ k. inl (rw h k)) (λ r. inr (title-refused t rest 9 (0x3F ∷ []) (ap (λ t. present title t ++ rest) h) r)) (title-known (c .param .value) t (c .fits .octets) (has-title c))
+          ⊎-elim (λ k. inl (rw h k)) (λ r. inr (title-refused t rest 9 (0x3F ∷ []) (ap (λ t. present title t ++ rest) h) r))
+          (title-known (c .param .value) t (c .fits .octets) (has-title c))
 
   -- A ? in the title: 9.
   pub unknown-refused : (Known (a .title) → ⊥) → writeAddress builtIn tag a ≡ refused 9 (0x3F ∷ [])
   unknown-refused n = ⊎-elim (λ k. absurd (n k)) (λ r. r) title-first
 
   -- None, and too long: 10.
-  pub too-long-refused : Known (a .title) → mostValue < addressLength a → writeAddress builtIn tag a ≡ refused 10 (tag ∷ fit64 (addressLength a) ∷ [])
+  pub too-long-refused :
+      Known (a .title) → mostValue < addressLength a → writeAddress builtIn tag a ≡ refused 10 (tag ∷ fit64 (addressLength a) ∷ [])
   too-long-refused k l =
       let (qs, hq) = pieces-write (pieces a) (readable builtIn v a o e .came) (known-pieces k) in
       let s = subs-length builtIn builtIn-lawful tag v a o e qs hq in

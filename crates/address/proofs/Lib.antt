@@ -3,3 +3,4 @@ pub mod Pieces
 pub mod SubParams
 pub mod Rewriting
 pub mod Writable
+pub mod Records

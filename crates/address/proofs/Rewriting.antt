@@ -15,7 +15,8 @@ use Rattle.parameter.specs.Parameter.{Param, two, roundUp, paddedLength, runOct
 use Rattle.parameter.specs.Walk.{twoAt, parameters}
 use Rattle.parameter.proofs.RoundTrip.{run-length, run-octets, round-trip, encode-inv}
 use Rattle.parameter.proofs.Reading.{parameters-fit, parameters-room}
-use Rattle.address.specs.Address.{Address, Piece, pieceIn, addressWith, addressIn, readAddress, indicator, pieces, subParam, writeAddress, rewriteAddress}
+use Rattle.address.specs.Address.{Address, Piece, pieceIn, addressWith, addressIn, readAddress}
+use Rattle.address.specs.Address.{indicator, pieces, subParam, writeAddress, rewriteAddress}
 use Rattle.address.proofs.Pieces.{totalLength, pieces-all, pieces-room, indicator-small, pieces-back}
 use Rattle.address.proofs.SubParams.{Came, pieces-read, pieces-written}
 

@@ -9,8 +9,7 @@ use lib.ListN.{length}
 use Rattle.bcd.specs.Outcome.{All, pick}
 use Rattle.bcd.proofs.Outcomes.{all-append}
 use Rattle.parameter.specs.Parameter.{Param, paddedLength}
-use Rattle.address.specs.Address.{Address, Piece, title, code, sub, other, asTitle, asCode, asSub}
-use Rattle.address.specs.Address.{later, last, othersIn, bit, addressWith, indicator, present, pieces}
+use Rattle.address.specs.Address.{Address, Piece, title, code, sub, other, asTitle, asCode, asSub, later, last, othersIn, bit, addressWith, indicator, present, pieces}
 use Rattle.address.proofs.Titles.{titleLength}
 
 -- The octets of the sub-parameter that a piece is written as, padding included.

@@ -11,12 +11,11 @@ use lib.ListN.{length, getD, drop, length-drop}
 use Rattle.bcd.specs.Outcome.{Outcome, accepted, after, each, All, Octets, most}
 use Rattle.bcd.specs.Digits.{Alphabet, Lawful}
 use Rattle.bcd.proofs.Outcomes.{accepted-inj, after-inv, mapped-inv, demand-inv, bounded-within, all-drop}
-use Rattle.parameter.specs.Parameter.{Param, two, roundUp, paddedLength, runOctets, runLength, mostValue, encodeParam}
-use Rattle.parameter.specs.Walk.{twoAt, parameters}
+use Rattle.parameter.specs.Parameter.{Param, two, roundUp, paddedLength, runOctets, runLength, mostValue, encodeParam, twoAt}
+use Rattle.parameter.specs.Walk.{parameters}
 use Rattle.parameter.proofs.RoundTrip.{run-length, run-octets, round-trip, encode-inv}
 use Rattle.parameter.proofs.Reading.{parameters-fit, parameters-room}
-use Rattle.address.specs.Address.{Address, Piece, pieceIn, addressWith, addressIn, readAddress}
-use Rattle.address.specs.Address.{indicator, pieces, subParam, writeAddress, rewriteAddress}
+use Rattle.address.specs.Address.{Address, Piece, pieceIn, addressWith, addressIn, readAddress, indicator, pieces, subParam, writeAddress, rewriteAddress}
 use Rattle.address.proofs.Pieces.{totalLength, pieces-all, pieces-room, indicator-small, pieces-back}
 use Rattle.address.proofs.SubParams.{Came, pieces-read, pieces-written}
 

@@ -11,9 +11,8 @@ use lib.ListN.{length, getD}
 use Rattle.bcd.specs.Outcome.{Outcome, accepted, pick, each, All, Octets}
 use Rattle.bcd.specs.Digits.{Alphabet, Lawful}
 use Rattle.bcd.proofs.Outcomes.{accepted-inj, mapped-inv, demand-inv, each-cons, each-inv, octets-at}
-use Rattle.parameter.specs.Parameter.{Param, paddedLength, runLength, Fits}
-use Rattle.parameter.specs.Walk.{twoAt}
-use Rattle.address.specs.Address.{Title, titleIn, writeTitle, four, fourIn, Piece, title, code, sub, other, fourOctets, pieceIn, subParam}
+use Rattle.parameter.specs.Parameter.{Param, paddedLength, runLength, Fits, twoAt, four, fourIn}
+use Rattle.address.specs.Address.{Title, titleIn, writeTitle, Piece, title, code, sub, other, fourOctets, pieceIn, subParam}
 use Rattle.address.proofs.Titles.{title-inv, title-digits, title-room, title-rewritten}
 use Rattle.address.proofs.Pieces.{pieceLength, totalLength}
 

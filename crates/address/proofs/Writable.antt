@@ -18,8 +18,7 @@ use Rattle.bcd.proofs.Writable.{nibbles, some-bad}
 use Rattle.bcd.proofs.Digits.{read-at-most, read-written}
 use Rattle.parameter.specs.Parameter.{Param, mostValue}
 use Rattle.parameter.proofs.RoundTrip.{all-sized, encode-accepts}
-use Rattle.address.specs.Address.{Title, titleIn, titleOctets, writeTitle, Address, Piece, title, code, sub}
-use Rattle.address.specs.Address.{other, asTitle, addressIn, present, pieces, subParam, sized, writeAddress}
+use Rattle.address.specs.Address.{Title, titleIn, titleOctets, writeTitle, Address, Piece, title, code, sub, other, asTitle, addressIn, present, pieces, subParam, sized, writeAddress}
 use Rattle.address.proofs.Titles.{HasTitle, title-inv}
 use Rattle.address.proofs.Pieces.{totalLength}
 use Rattle.address.proofs.SubParams.{PieceOf, isTitle, Came, pieces-written}

@@ -1,6 +1,6 @@
 -- Global titles and addresses, read and written (RFC 3868, 3.10.2; document 01, module 3). The first argument is the
 -- alphabet of the digits.
-use Prim.Native.Nat.{ℕ, _+_, _*_, _/_, _%_}
+use Prim.Native.Nat.{ℕ, _+_, _/_, _%_}
 use mathlib.Core.Bool.{Bool}
 use mathlib.Core.Option.{Option, none, some}
 use mathlib.Core.List.{List, [], _∷_, _++_, map}
@@ -8,8 +8,8 @@ use lib.ListN.{length, getD, drop}
 use lib.Dec.{leb, eqb}
 use Rattle.bcd.specs.Outcome.{Outcome, accepted, pick, after, demand, mapped, each, bounded, fit64}
 use Rattle.bcd.specs.Digits.{Alphabet, digitsIn, writeDigits}
-use Rattle.parameter.specs.Parameter.{Param, two, mostValue, encodeParam}
-use Rattle.parameter.specs.Walk.{twoAt, parameters}
+use Rattle.parameter.specs.Parameter.{Param, two, four, fourIn, mostValue, encodeParam, twoAt}
+use Rattle.parameter.specs.Walk.{parameters}
 
 -- Global title: indicator, translation type, numbering plan, nature of address, digits (RFC 3868, 3.10.2.3).
 pub record Title : Type 0 where
@@ -54,13 +54,6 @@ titleOctets t os = 0 ∷ 0 ∷ 0 ∷ t .gti ∷ length (t .digits) ∷ t .tt ∷
 -- Writing a title: 11, 9 (document 01, 'Order').
 unfoldable pub writeTitle : Alphabet → Title → Outcome (List ℕ)
 writeTitle A t = mapped (titleOctets t) (writeDigits A (t .digits))
-
--- A 32-bit number, the high octet first, and the one that octets start with (RFC 3868, 3.1).
-abbrev pub four : ℕ → List ℕ
-four n = two (n / 65536) ++ two (n % 65536)
-
-abbrev pub fourIn : List ℕ → ℕ
-fourIn v = twoAt v 0 * 65536 + twoAt v 2
 
 -- What a sub-parameter is: a title, a point code, an SSN, or any other, kept as it came (document 01, 'Records on the wire').
 pub data Piece : Type 0 where

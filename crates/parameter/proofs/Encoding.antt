@@ -5,14 +5,14 @@ use mathlib.Core.Option.{none, some}
 use mathlib.Core.List.{List, [], _∷_, _++_}
 use native.Mathlib.Omega.{arith}
 use borrow.Author.Tests.{le-leb, lt-leb, leb-true}
-use lib.ListN.{length, getD, take, drop, replicate, length-append, length-take, length-drop, length-replicate}
+use lib.ListN.{length, take, drop, replicate, length-append, length-take, length-drop, length-replicate}
 use lib.Seq.{take-length}
 use lib.Dec.{leb}
 use borrow.Rule.Slice.PartMut.{midOf, putMid}
 use Rattle.bcd.specs.Outcome.{Outcome, accepted, refused, after, demand, mapped, most, bounded, deliver}
 use Rattle.bcd.proofs.Outcomes.{accepted-inj, demand-inv, after-demand, mapped-demand}
 use Rattle.bcd.proofs.Writing.{Begun, begin, extend, extend-all, delivered}
-use Rattle.parameter.specs.Parameter.{Param, two, paddedLength, paramOctets, mostValue, encodeParam, wireLength, numberIn}
+use Rattle.parameter.specs.Parameter.{Param, two, twoAt, paddedLength, paramOctets, mostValue, encodeParam, wireLength, numberIn}
 use Rattle.parameter.specs.Walk.{Walked, taken, stepAt, decodeParam}
 use Rattle.parameter.proofs.RoundTrip.{octets-length}
 
@@ -43,16 +43,9 @@ pub number-short : (v : List ℕ) → length v < 4 → numberIn v ≡ none
 unfolding numberIn
 number-short v h = rw (lt-leb 4 (length v) h)
 
-pub number-four :
-    (v : List ℕ) (high low : ℕ)
-    → 4 ≤ length v
-    → high ≡ getD v 0 0 * 256 + getD v 1 0
-    → low ≡ getD v 2 0 * 256 + getD v 3 0
-    → some (high * 65536 + low) ≡ numberIn v
+pub number-four : (v : List ℕ) (high low : ℕ) → 4 ≤ length v → high ≡ twoAt v 0 → low ≡ twoAt v 2 → some (high * 65536 + low) ≡ numberIn v
 unfolding numberIn
-number-four v high low h a b =
-    let e : high * 65536 + low ≡ getD v 0 0 * 16777216 + getD v 1 0 * 65536 + getD v 2 0 * 256 + getD v 3 0 = omega arith in
-    rw (le-leb 4 (length v) h) (ap some e)
+number-four v high low h a b = rw (le-leb 4 (length v) h, a, b)
 
 -- reading one parameter goes on from a step at the front
 pub decode-step : (xs : List ℕ) (w : Outcome Walked) → w ≡ bounded xs (stepAt xs 0) → after w (taken xs) ≡ bounded xs (decodeParam xs)

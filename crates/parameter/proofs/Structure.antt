@@ -9,8 +9,8 @@ use lib.ListN.{length, take, drop, length-drop}
 use lib.Seq.{getD-drop, drop-drop}
 use Rattle.bcd.specs.Outcome.{Outcome, accepted, refused, after, demand, mapped}
 use Rattle.parameter.specs.declared.Place.{Place}
-use Rattle.parameter.specs.Parameter.{Param, paddedLength}
-use Rattle.parameter.specs.Walk.{Walked, ended, found, twoAt, headed, stepAt, onward, steps, places, valued, parameters}
+use Rattle.parameter.specs.Parameter.{Param, paddedLength, twoAt}
+use Rattle.parameter.specs.Walk.{Walked, ended, found, headed, stepAt, onward, steps, places, valued, parameters}
 use Rattle.parameter.proofs.Walking.{step-end, step-headed, step-inv}
 
 -- A run of parameters, at most so many.

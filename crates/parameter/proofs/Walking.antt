@@ -10,8 +10,8 @@ use lib.ListN.{length, getD}
 use Rattle.bcd.specs.Outcome.{Outcome, accepted, refused, pick, All}
 use Rattle.bcd.proofs.Outcomes.{accepted-inj, after-inv, mapped-inv, demand-inv}
 use Rattle.parameter.specs.declared.Place.{Place}
-use Rattle.parameter.specs.Parameter.{paddedLength}
-use Rattle.parameter.specs.Walk.{Walked, ended, found, twoAt, headed, stepAt, onward, steps, places}
+use Rattle.parameter.specs.Parameter.{paddedLength, twoAt}
+use Rattle.parameter.specs.Walk.{Walked, ended, found, headed, stepAt, onward, steps, places}
 
 pub second-two : (xs : List ℕ) (at : ℕ) → getD xs (at + 2) 0 * 256 + getD xs (at + 3) 0 ≡ twoAt xs (at + 2)
 unfolding twoAt

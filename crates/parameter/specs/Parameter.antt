@@ -15,6 +15,17 @@ pub record Param : Type 0 where
 abbrev pub two : ℕ → List ℕ
 two n = n / 256 ∷ n % 256 ∷ []
 
+-- The 16-bit number at a position, the high octet first (RFC 3868, 3.1).
+unfoldable pub twoAt : List ℕ → ℕ → ℕ
+twoAt xs i = getD xs i 0 * 256 + getD xs (i + 1) 0
+
+-- A 32-bit number, the high octet first, and the one that octets start with (RFC 3868, 3.1).
+abbrev pub four : ℕ → List ℕ
+four n = two (n / 65536) ++ two (n % 65536)
+
+abbrev pub fourIn : List ℕ → ℕ
+fourIn v = twoAt v 0 * 65536 + twoAt v 2
+
 -- Rounded up to a multiple of 4.
 abbrev pub roundUp : ℕ → ℕ
 roundUp n = (n + 3) / 4 * 4
@@ -53,12 +64,9 @@ encodeParam p = demand (leb (length (p .value)) mostValue) 10 (p .tag ∷ length
 unfoldable pub wireLength : (tag n : ℕ) → Outcome ℕ
 wireLength tag n = demand (leb n mostValue) 10 (tag ∷ n ∷ []) (accepted (paddedLength n))
 
--- The first four octets of a value as a number, the high octet first; none under four (RFC 3868, 3.1; document 01, 'Order').
+-- A value as a number: its first four octets; none under four (document 01, 'Order').
 unfoldable pub numberIn : List ℕ → Option ℕ
-numberIn v =
-    pick (leb 4 (length v))
-    (some (getD v 0 0 * 16777216 + getD v 1 0 * 65536 + getD v 2 0 * 256 + getD v 3 0))
-    none
+numberIn v = pick (leb 4 (length v)) (some (fourIn v)) none
 
 -- Octets written are at most 1,048,576, else 12.
 abbrev pub writable : List ℕ → Outcome (List ℕ)

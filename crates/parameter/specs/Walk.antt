@@ -1,20 +1,16 @@
 -- A run of parameters, walked from a position (RFC 3868, 3.1.5).
-use Prim.Native.Nat.{ℕ, zero, suc, _+_, _-_, _*_, min}
+use Prim.Native.Nat.{ℕ, zero, suc, _+_, _-_, min}
 use mathlib.Core.List.{List, [], _∷_, map}
-use lib.ListN.{length, getD, take, drop}
+use lib.ListN.{length, take, drop}
 use lib.Dec.{leb, ltb}
 use Rattle.bcd.specs.Outcome.{Outcome, accepted, refused, pick, after, demand, mapped}
-use Rattle.parameter.specs.Parameter.{Param, paddedLength}
+use Rattle.parameter.specs.Parameter.{Param, twoAt, paddedLength}
 use Rattle.parameter.specs.declared.Place.{Place}
 
 -- What stands at a position: no more parameters, or a parameter's place and where the next one starts.
 pub data Walked : Type 0 where
   ended : Walked
   found : Place → (next : ℕ) → Walked
-
--- The 16-bit number at a position, the high octet first (RFC 3868, 3.1).
-unfoldable pub twoAt : List ℕ → ℕ → ℕ
-twoAt xs i = getD xs i 0 * 256 + getD xs (i + 1) 0
 
 -- A tag and a length at a position, with so many octets from the tag to the end: a length below 4 is 5, one beyond the
 -- octets is 6 (document 01, 'Refused because of the input'). The next parameter starts behind the padding.

@@ -7,7 +7,7 @@ use native.Mathlib.Omega.{arith}
 use lib.ListN.{length}
 use Rattle.bcd.specs.Outcome.{accepted, most, bounded}
 use Rattle.bcd.proofs.Outcomes.{bounded-within, bounded-beyond}
-use Rattle.parameter.specs.Parameter.{numberIn}
+use Rattle.parameter.specs.Parameter.{twoAt, numberIn}
 use Rattle.parameter.proofs.Encoding.{number-short, number-four}
 use borrow.Author.Needs.{needs}
 use Rattle.parameter.proofs.as_u32.Statement.{statement}
@@ -53,6 +53,7 @@ add-t15 : tie.Need-add-t15
 add-t15 c = search needs
 
 returns-3 : tie.Need-returns-3
+unfolding twoAt
 returns-3 c =
     let first = c .before .before .before in
     let test = first .before .before .before .before in

@@ -5,7 +5,7 @@ use mathlib.Core.List.{List}
 use lib.ListN.{length}
 use mathlib.Core.Path.{_≡_, sym, _∙_}
 use native.Mathlib.Omega.{arith}
-use Rattle.parameter.specs.Walk.{twoAt}
+use Rattle.parameter.specs.Parameter.{twoAt}
 use Rattle.bcd.specs.Outcome.{Outcome, most, bounded}
 use Rattle.bcd.proofs.Outcomes.{bounded-within, bounded-beyond}
 use Rattle.parameter.specs.Walk.{Walked, stepAt}

@@ -278,19 +278,19 @@ pub fn decode_parameters_from(
     ensures { λ r. ⌜ record { answer = countedOf r; table = record { tags = now (tags .exit); starts = now (starts .exit); lengths = now (lengths .exit) } } ≡ tabulate (bounded (now (bytes .entry)) (places (now (bytes .entry)) from)) (record { tags = now (tags .entry); starts = now (starts .entry); lengths = now (lengths .entry) }) ⌝ }
 {
     match count(bytes, from) {
-        Counted::Refused(r) => Counted::Refused(r),
-        Counted::Count(n) => {
-            if tags.len() < n {
-                return Counted::Refused(Refusal::TableTooSmall(n));
+        Counted::Refused(refusal) => Counted::Refused(refusal),
+        Counted::Count(needed) => {
+            if tags.len() < needed {
+                return Counted::Refused(Refusal::TableTooSmall(needed));
             }
-            if starts.len() < n {
-                return Counted::Refused(Refusal::TableTooSmall(n));
+            if starts.len() < needed {
+                return Counted::Refused(Refusal::TableTooSmall(needed));
             }
-            if lengths.len() < n {
-                return Counted::Refused(Refusal::TableTooSmall(n));
+            if lengths.len() < needed {
+                return Counted::Refused(Refusal::TableTooSmall(needed));
             }
-            fill(bytes, from, n, tags, starts, lengths);
-            Counted::Count(n)
+            fill(bytes, from, needed, tags, starts, lengths);
+            Counted::Count(needed)
         }
     }
 }
@@ -440,16 +440,16 @@ pub fn find_parameter(
     if outside(values, tags, starts, lengths, count) {
         return Found::Refused(Refusal::OutsideSlice);
     }
-    let mut i = 0;
-    while i < count {
-        if tags[i] == tag {
+    let mut row = 0;
+    while row < count {
+        if tags[row] == tag {
             return Found::At(Place {
-                tag: tags[i],
-                start: starts[i],
-                length: lengths[i],
+                tag: tags[row],
+                start: starts[row],
+                length: lengths[row],
             });
         }
-        i += 1;
+        row += 1;
     }
     Found::None
 }

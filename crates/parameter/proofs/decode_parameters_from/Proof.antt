@@ -17,17 +17,17 @@ walked s = bounded (s .args .bytes .now) (places (s .args .bytes .now) (s .args 
 abbrev start : tie.After-known-told2 → tie.Start
 start c = c .before .before .before .before .before .before .before .before
 
-counted : (c : tie.After-known-told2) → accepted (c .before .n .given .0 .0) ≡ mapped length (walked (start c))
-counted c = sym (ap countedOf (c .before .n .given .1)) ∙ c .before .before .before .count .ensures
+counted : (c : tie.After-known-told2) → accepted (c .before .needed .given .0 .0) ≡ mapped length (walked (start c))
+counted c = sym (ap countedOf (c .before .needed .given .1)) ∙ c .before .before .before .count .ensures
 
 count-requires : tie.Need-count-requires
 count-requires c κs = search needs
 
-enum-known-r : tie.Need-enum-known-r
-enum-known-r c = search needs
+enum-known-refusal : tie.Need-enum-known-refusal
+enum-known-refusal c = search needs
 
-enum-known-n : tie.Need-enum-known-n
-enum-known-n c = search needs
+enum-known-needed : tie.Need-enum-known-needed
+enum-known-needed c = search needs
 
 returns : tie.Need-returns
 returns c =
@@ -55,7 +55,7 @@ fill-requires c κs =
 returns-4 : tie.Need-returns-4
 returns-4 c =
     let k = c .before .before .before in
-    table-refused (walked (k .before .before .before .before .before)) _ _ _ (sym (ap countedOf (c .before .r .given .1)) ∙ k .count .ensures)
+    table-refused (walked (k .before .before .before .before .before)) _ _ _ (sym (ap countedOf (c .before .refusal .given .1)) ∙ k .count .ensures)
 
 same-length : tie.Need-same-length
 same-length c = search needs
@@ -74,8 +74,8 @@ decode-parameters-from-spec =
     tie.close
     (tie.spec
     count-requires
-    enum-known-r
-    enum-known-n
+    enum-known-refusal
+    enum-known-needed
     returns
     returns-2
     returns-3

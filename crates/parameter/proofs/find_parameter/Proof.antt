@@ -1,4 +1,4 @@
--- `parameter::find_parameter` meets its contract: none of the first i records has the tag.
+-- `parameter::find_parameter` meets its contract: none of the first records has the tag.
 use borrow.Author.Needs.{needs}
 use Prim.Native.Nat.{_-_, _≤_}
 use mathlib.Core.Path.{_≡_, refl, sym, ap, _∙_}
@@ -14,10 +14,10 @@ use Rattle.parameter.proofs.find_parameter.Statement.{statement}
 use Rattle.parameter.proofs.find_parameter.Tie as tie
 
 abbrev Inv-loop : tie.InvT-loop
-Inv-loop values tags starts lengths count tag i₀ i = (i ≤ count) × Held values tags starts lengths count × (firstWith tag (take i (firstRows tags starts lengths count)) ≡ none)
+Inv-loop values tags starts lengths count tag row₀ row = (row ≤ count) × Held values tags starts lengths count × (firstWith tag (take row (firstRows tags starts lengths count)) ≡ none)
 
 abbrev μ-loop : tie.MeasureT-loop
-μ-loop values tags starts lengths count tag i₀ i = count - i
+μ-loop values tags starts lengths count tag row₀ row = count - row
 
 abbrev table : tie.Start Inv-loop μ-loop → Table
 table s = record { tags = s .args .tags .now; starts = s .args .starts .now; lengths = s .args .lengths .now }
@@ -75,12 +75,12 @@ returns-2 c =
     let s = start t in
     let l = t .before .loop in
     let k = l .inv .1 in
-    let row = held-row k (l .i) (t .loop-test .taken) in
-    let here = first-found (s .args .tag) (listed s) (l .i) (rw (held-rows k) (t .loop-test .taken)) (l .inv .2) (ap (λ (p : Place). p .tag) row ∙ w .if2 .taken) in
+    let row = held-row k (l .row) (t .loop-test .taken) in
+    let here = first-found (s .args .tag) (listed s) (l .row) (rw (held-rows k) (t .loop-test .taken)) (l .inv .2) (ap (λ (p : Place). p .tag) row ∙ w .if2 .taken) in
     sym (find-first (s .args .values .now) (table s) (s .args .count) (s .args .tag) _ (k .known) ∙ ap accepted (here ∙ ap some row))
 
-add-i : tie.Need-add-i Inv-loop μ-loop
-add-i c = search needs
+add-row : tie.Need-add-row Inv-loop μ-loop
+add-row c = search needs
 
 loop-less : tie.Need-loop-less Inv-loop μ-loop
 loop-less c = search needs
@@ -91,15 +91,15 @@ loop-again c =
     let s = start t in
     let l = t .before .loop in
     let k = l .inv .1 in
-    let row = held-row k (l .i) (t .loop-test .taken) in
-    (search needs, k, first-more (s .args .tag) (listed s) (l .i) (rw (held-rows k) (t .loop-test .taken)) (l .inv .2) (λ e. c .if2 .left (sym (ap (λ (p : Place). p .tag) row) ∙ e)))
+    let row = held-row k (l .row) (t .loop-test .taken) in
+    (search needs, k, first-more (s .args .tag) (listed s) (l .row) (rw (held-rows k) (t .loop-test .taken)) (l .inv .2) (λ e. c .if2 .left (sym (ap (λ (p : Place). p .tag) row) ∙ e)))
 
 returns-3 : tie.Need-returns-3 Inv-loop μ-loop
 returns-3 c =
     let s = c .before .before .before .before .before .before .before .before in
     let l = c .before .loop in
     let k = l .inv .1 in
-    let whole = rw (take-all (l .i) (listed s) (rw (held-rows k) (c .loop-test .left))) at (l .inv .2) in
+    let whole = rw (take-all (l .row) (listed s) (rw (held-rows k) (c .loop-test .left))) at (l .inv .2) in
     sym (find-first (s .args .values .now) (table s) (s .args .count) (s .args .tag) _ (k .known) ∙ ap accepted whole)
 
 pub find-parameter-spec : {M : Type 1} → statement M
@@ -120,7 +120,7 @@ find-parameter-spec =
     mul-t20
     shared-slice-read-t22
     returns-2
-    add-i
+    add-row
     loop-less
     loop-again
     returns-3)

@@ -6,9 +6,9 @@ use mathlib.Core.Logic.{⊎-elim}
 use mathlib.Core.List.{List, [], _∷_}
 use native.Mathlib.Omega.{arith}
 use native.Mathlib.Nat.{zero-add}
-use lib.Dec.{leb, eqb, lit≤}
+use lib.Dec.{leb, ltb, eqb, lit≤}
 use lib.ListN.{length, getD}
-use borrow.Author.Tests.{eqb-true, eq-eqb, ne-eqb, leb-true}
+use borrow.Author.Tests.{eqb-true, eq-eqb, ne-eqb, leb-true, ltb-true}
 use Rattle.bcd.specs.Outcome.{Outcome, accepted, refused, pick, All}
 use Rattle.bcd.proofs.Outcomes.{accepted-inj, never, le-or-lt}
 use Rattle.message.specs.declared.header.MessageClass.{MessageClass}
@@ -25,7 +25,7 @@ off : (t : Bool) → (t ≡ true → ⊥) → t ≡ false
 off true h = absurd (h refl)
 off false h = refl
 
-abbrev allOf : {A : Type 0} → (A → Bool) → List A → Bool
+abbrev pub allOf : {A : Type 0} → (A → Bool) → List A → Bool
 allOf f [] = true
 allOf f (x ∷ xs) = f x && allOf f xs
 
@@ -57,6 +57,26 @@ module _ {A : Type 0} (test : A → Bool) where
           → test x ≡ true
       on true h e ih = ap test (sym (accepted-inj e)) ∙ h
       on false h e ih = ih e
+
+  -- what was found is one of the list
+  first-among :
+      (f : A → Bool) (xs : List A) (n : ℕ) (vs : List ℕ) (x : A)
+      → first test xs (refused n vs) ≡ accepted x
+      → allOf f xs ≡ true
+      → f x ≡ true
+  first-among f [] n vs x e h = absurd (never e)
+  first-among f (y ∷ ys) n vs x e h =
+      let (here, others) = both (f y) (allOf f ys) h in
+      on (test y) e here (λ d. first-among f ys n vs x d others)
+    where
+      on :
+          (t : Bool)
+          → pick t (accepted y) (first test ys (refused n vs)) ≡ accepted x
+          → f y ≡ true
+          → (first test ys (refused n vs) ≡ accepted x → f x ≡ true)
+          → f x ≡ true
+      on true e here ih = ap f (sym (accepted-inj e)) ∙ here
+      on false e here ih = ih e
 
   -- nothing is found where a property of all rules the test out
   first-none :
@@ -113,6 +133,26 @@ pair-of-type T.RegReq = refl
 pair-of-type T.RegRsp = refl
 pair-of-type T.DeregReq = refl
 pair-of-type T.DeregRsp = refl
+
+-- A test that every type of the list passes, any type passes.
+pub every : (f : MessageType → Bool) → allOf f messageTypes ≡ true → (m : MessageType) → f m ≡ true
+unfolding fromClassType
+every f e m = first-among (λ k. eqb (classOf m) (classOf k) && eqb (typeOf m) (typeOf k)) f messageTypes _ _ m (pair-of-type m) e
+
+accepts : {A : Type 0} → Outcome A → Bool
+accepts (accepted a) = true
+accepts (refused n vs) = false
+
+-- Each type's class is known.
+pub class-known : (m : MessageType) (n : ℕ) (vs : List ℕ) → fromOctet (classOf m) ≡ refused n vs → ⊥
+unfolding fromOctet accepts
+class-known m n vs e = let z = sym (every (λ m. accepts (fromOctet (classOf m))) refl m) ∙ ap accepts e in let y : _≡_ {A = ℕ} 0 1 = cc in omega arith
+
+pub class-octet : (m : MessageType) → classOf m < 256
+class-octet m = omega (arith, ltb-true (classOf m) 256 (every (λ m. ltb (classOf m) 256) refl m))
+
+pub type-octet : (m : MessageType) → typeOf m < 256
+type-octet m = omega (arith, ltb-true (typeOf m) 256 (every (λ m. ltb (typeOf m) 256) refl m))
 
 -- Where the code answers a type.
 pub reads-as : (m : MessageType) (c t : ℕ) → c ≡ classOf m → t ≡ typeOf m → accepted m ≡ fromClassType c t

@@ -1,73 +1,62 @@
+-- `message::header::CommonHeader::encode` meets its contract.
+use mathlib.Core.Path.{_≡_}
+use native.Mathlib.Omega.{arith}
+use lib.ListN.{length-set}
+use Rattle.bcd.proofs.Outcomes.{deliver-short}
+use Rattle.message.specs.Message.{headerOctets, writeHeader}
+use Rattle.message.proofs.Headers.{header-written}
 use borrow.Author.Needs.{needs}
 use Rattle.message.proofs.header.CommonHeader.encode.Statement.{statement}
 use Rattle.message.proofs.header.CommonHeader.encode.Tie as tie
-use Rattle.message.proofs.header.CommonHeader.encode.Reads as reads
-use Rattle.message.proofs.header.CommonHeader.encode.Lts as lts
-use Rattle.message.proofs.header.MessageType.class_and_type.Reads as class-and-type-reads
 
--- src/header.rt:349:13
 returns : tie.Need-returns
-returns c = ?
+unfolding writeHeader
+returns c = deliver-short (headerOctets (c .before .before .args .self)) (c .before .before .args .out .now) (c .if1 .taken)
 
--- src/header.rt:352:13
 class-and-type-requires : tie.Need-class-and-type-requires
 class-and-type-requires c κs = search needs
 
--- src/header.rt:354:9
 slice-write-out : tie.Need-slice-write-out
 slice-write-out c = search needs
 
--- src/header.rt:355:9
 slice-write-out-2 : tie.Need-slice-write-out-2
-slice-write-out-2 c = ?
+slice-write-out-2 c = simp length-set (omega arith)
 
--- src/header.rt:356:9
 slice-write-out-3 : tie.Need-slice-write-out-3
-slice-write-out-3 c = ?
+slice-write-out-3 c = simp length-set (omega arith)
 
--- src/header.rt:357:9
 slice-write-out-4 : tie.Need-slice-write-out-4
-slice-write-out-4 c = ?
+slice-write-out-4 c = simp length-set (omega arith)
 
--- src/header.rt:358:18
 cast-out : tie.Need-cast-out
 cast-out c = search needs
 
--- src/header.rt:358:9
 slice-write-out-5 : tie.Need-slice-write-out-5
-slice-write-out-5 c = ?
+slice-write-out-5 c = simp length-set (omega arith)
 
--- src/header.rt:359:18
 cast-out-2 : tie.Need-cast-out-2
 cast-out-2 c = search needs
 
--- src/header.rt:359:9
 slice-write-out-6 : tie.Need-slice-write-out-6
-slice-write-out-6 c = ?
+slice-write-out-6 c = simp length-set (omega arith)
 
--- src/header.rt:360:18
 cast-out-3 : tie.Need-cast-out-3
 cast-out-3 c = search needs
 
--- src/header.rt:360:9
 slice-write-out-7 : tie.Need-slice-write-out-7
-slice-write-out-7 c = ?
+slice-write-out-7 c = simp length-set (omega arith)
 
--- src/header.rt:361:18
 cast-out-4 : tie.Need-cast-out-4
 cast-out-4 c = search needs
 
--- src/header.rt:361:9
 slice-write-out-8 : tie.Need-slice-write-out-8
-slice-write-out-8 c = ?
+slice-write-out-8 c = simp length-set (omega arith)
 
--- src/header.rt:345:5
 same-length : tie.Need-same-length
 same-length c = search needs
 
--- src/header.rt:345:5
 returns-2 : tie.Need-returns-2
-returns-2 c = ?
+returns-2 c = let s = c .before .before .before in header-written (s .args .self) (c .class-and-type .result) (s .args .out .now) (c .class-and-type .ensures) (c .before .if1 .left)
 
 pub encode-spec : {M : Type 1} → statement M
 encode-spec =

@@ -1,6 +1,6 @@
 -- Reading a header, refusal by refusal; and its eight octets, stored one by one.
 use Prim.Native.Nat.{ℕ, _/_, _%_, _≤_, _<_}
-use mathlib.Core.Path.{_≡_, refl, ap, _∙_}
+use mathlib.Core.Path.{_≡_, refl, _∙_}
 use mathlib.Core.List.{List, [], _∷_}
 use native.Mathlib.Omega.{arith}
 use borrow.Author.Tests.{le-leb, lt-leb, eq-eqb, ne-eqb}
@@ -11,7 +11,7 @@ use Rattle.bcd.proofs.Writing.{Begun, untouched, store, delivered}
 use Rattle.message.specs.declared.header.ClassAndType.{ClassAndType}
 use Rattle.message.specs.declared.header.CommonHeader.{CommonHeader}
 use Rattle.message.specs.Types.{classAndType, fromClassType}
-use Rattle.message.specs.Message.{fourAt, headerWith, headerOctets, readHeader, writeHeader}
+use Rattle.message.specs.Message.{fourAt, headerWith, readHeader, writeHeader}
 
 module _ (xs : List ℕ) where
   pub header-beyond : most < length xs → readHeader xs ≡ refused 12 (length xs ∷ [])

@@ -7,12 +7,9 @@ use mathlib.Core.List.{List, [], _∷_}
 use native.Mathlib.Omega.{arith}
 use native.Mathlib.Nat.{zero-add}
 use lib.Dec.{leb, ltb, eqb, lit≤}
-use lib.ListN.{length, getD}
 use borrow.Author.Tests.{eqb-true, eq-eqb, ne-eqb, leb-true, ltb-true}
-use Rattle.bcd.specs.Outcome.{Outcome, accepted, refused, pick, All}
+use Rattle.bcd.specs.Outcome.{Outcome, accepted, refused, pick}
 use Rattle.bcd.proofs.Outcomes.{accepted-inj, never, le-or-lt}
-use Rattle.message.specs.declared.header.MessageClass.{MessageClass}
-use Rattle.message.specs.declared.header.MessageClass.the-variants as C
 use Rattle.message.specs.declared.header.MessageType.{MessageType}
 use Rattle.message.specs.declared.header.MessageType.the-variants as T
 use Rattle.message.specs.Types.{first, classOctet, messageClasses, fromOctet, classOf, typeOf, messageTypes, fromClassType}

@@ -92,7 +92,7 @@ pub enum HeaderRead {
 }
 
 impl MessageClass {
-    // 3.
+    // The class of an octet. 3.
     pub fn from_u8(value: u8) -> ClassRead
         ensures { λ r. ⌜ classReadOf r ≡ fromOctet value ⌝ }
     {
@@ -109,13 +109,14 @@ impl MessageClass {
     }
 }
 
+// Refusal 4.
 fn unknown(class: u8, msg_type: u8) -> TypeRead
     ensures { λ r. ⌜ typeReadOf r ≡ refused 4 (class ∷ «msg_type» ∷ []) ⌝ }
 {
     TypeRead::Refused(Refusal::InvalidMessageType { class, msg_type })
 }
 
-// The types of class 0.
+// The types of class 0, management.
 fn management(msg_type: u8) -> TypeRead
     ensures { λ r. ⌜ typeReadOf r ≡ fromClassType 0 «msg_type» ⌝ }
 {
@@ -126,7 +127,7 @@ fn management(msg_type: u8) -> TypeRead
     }
 }
 
-// The types of class 2.
+// The types of class 2, signalling network management.
 fn snm(msg_type: u8) -> TypeRead
     ensures { λ r. ⌜ typeReadOf r ≡ fromClassType 2 «msg_type» ⌝ }
 {
@@ -141,7 +142,7 @@ fn snm(msg_type: u8) -> TypeRead
     }
 }
 
-// The types of class 3.
+// The types of class 3, ASP state maintenance.
 fn aspsm(msg_type: u8) -> TypeRead
     ensures { λ r. ⌜ typeReadOf r ≡ fromClassType 3 «msg_type» ⌝ }
 {
@@ -156,7 +157,7 @@ fn aspsm(msg_type: u8) -> TypeRead
     }
 }
 
-// The types of class 4.
+// The types of class 4, ASP traffic maintenance.
 fn asptm(msg_type: u8) -> TypeRead
     ensures { λ r. ⌜ typeReadOf r ≡ fromClassType 4 «msg_type» ⌝ }
 {
@@ -169,7 +170,7 @@ fn asptm(msg_type: u8) -> TypeRead
     }
 }
 
-// The types of class 7.
+// The types of class 7, connectionless messages.
 fn connection_less(msg_type: u8) -> TypeRead
     ensures { λ r. ⌜ typeReadOf r ≡ fromClassType 7 «msg_type» ⌝ }
 {
@@ -180,7 +181,7 @@ fn connection_less(msg_type: u8) -> TypeRead
     }
 }
 
-// The types of class 8.
+// The types of class 8, connection-oriented messages.
 fn connection_oriented(msg_type: u8) -> TypeRead
     ensures { λ r. ⌜ typeReadOf r ≡ fromClassType 8 «msg_type» ⌝ }
 {
@@ -200,7 +201,7 @@ fn connection_oriented(msg_type: u8) -> TypeRead
     }
 }
 
-// The types of class 9.
+// The types of class 9, routing key management.
 fn rkm(msg_type: u8) -> TypeRead
     ensures { λ r. ⌜ typeReadOf r ≡ fromClassType 9 «msg_type» ⌝ }
 {
@@ -214,7 +215,7 @@ fn rkm(msg_type: u8) -> TypeRead
 }
 
 impl MessageType {
-    // 4.
+    // The type of a class and a type. 4.
     pub fn from_class_type(class: u8, msg_type: u8) -> TypeRead
         ensures { λ r. ⌜ typeReadOf r ≡ fromClassType class «msg_type» ⌝ }
     {
@@ -230,6 +231,7 @@ impl MessageType {
         }
     }
 
+    // The octets of the type.
     pub fn class_and_type(self) -> ClassAndType
         ensures { λ r. ⌜ r ≡ classAndType self ⌝ }
     {
@@ -272,6 +274,7 @@ impl MessageType {
         }
     }
 
+    // The class of the type.
     pub fn message_class(self) -> MessageClass
         ensures { λ r. ⌜ accepted r ≡ fromOctet (classOf self) ⌝ }
     {
@@ -283,6 +286,7 @@ impl MessageType {
     }
 }
 
+// An octet as a 32-bit number.
 fn wide(octet: u8) -> u32
     ensures { λ r. ⌜ (r ≡ octet) × (r < 256) ⌝ }
 {
@@ -302,8 +306,10 @@ fn four_at(bytes: &[u8], at: usize) -> u32
 }
 
 impl CommonHeader {
+    // The octets of a header.
     pub const SIZE: usize = 8;
 
+    // The header of a message of this many octets.
     pub fn new(message_type: MessageType, message_length: u32) -> Self
         ensures { λ r. ⌜ r ≡ headerWith «message_type» «message_length» ⌝ }
     {

@@ -1,5 +1,5 @@
 -- `message::header::rkm` meets its contract: each arm's type has that pair, and no other type of the class has.
-use mathlib.Core.Path.{_≡_, refl, sym, ap, _∙_}
+use mathlib.Core.Path.{refl, sym, _∙_}
 use mathlib.Core.Logic.{⊎-elim}
 use mathlib.Core.List.{[], _∷_}
 use borrow.Author.Needs.{needs}

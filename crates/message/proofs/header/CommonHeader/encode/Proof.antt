@@ -1,5 +1,4 @@
 -- `message::header::CommonHeader::encode` meets its contract.
-use mathlib.Core.Path.{_≡_}
 use native.Mathlib.Omega.{arith}
 use lib.ListN.{length-set}
 use Rattle.bcd.proofs.Outcomes.{deliver-short}

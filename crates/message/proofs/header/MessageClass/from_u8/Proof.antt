@@ -1,5 +1,5 @@
 -- `message::header::MessageClass::from_u8` meets its contract.
-use mathlib.Core.Path.{_≡_, sym, ap}
+use mathlib.Core.Path.{sym, ap}
 use Rattle.message.specs.Types.{fromOctet}
 use Rattle.message.proofs.Types.{other-octet}
 use Rattle.message.proofs.header.MessageClass.from_u8.Statement.{statement}

@@ -1,5 +1,5 @@
 -- `message::header::MessageType::class_and_type` meets its contract.
-use mathlib.Core.Path.{_≡_, sym, ap}
+use mathlib.Core.Path.{sym, ap}
 use borrow.Author.Needs.{needs}
 use Rattle.message.specs.Types.{classAndType}
 use Rattle.message.proofs.header.MessageType.class_and_type.Statement.{statement}

@@ -1,5 +1,5 @@
 -- `message::header::MessageType::from_class_type` meets its contract: class by class.
-use mathlib.Core.Path.{_≡_, sym, ap, _∙_}
+use mathlib.Core.Path.{sym, ap, _∙_}
 use borrow.Author.Needs.{needs}
 use Rattle.message.specs.Types.{fromClassType}
 use Rattle.message.proofs.Types.{other-class}

@@ -1,5 +1,5 @@
 -- `message::header::MessageType::message_class` meets its contract: the class of a type is never refused.
-use mathlib.Core.Path.{_≡_, sym, ap, _∙_}
+use mathlib.Core.Path.{sym, ap, _∙_}
 use Rattle.message.specs.Types.{fromOctet, classReadOf}
 use Rattle.message.proofs.Types.{class-known}
 use borrow.Author.Needs.{needs}

@@ -1,0 +1,2 @@
+pub mod Address
+pub mod Records

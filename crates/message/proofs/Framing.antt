@@ -9,10 +9,10 @@ use borrow.Author.Tests.{le-leb, eq-eqb, leb-true, eqb-true}
 use Rattle.bcd.specs.Outcome.{Outcome, accepted, after, demand, mapped, bounded, All, Octets, most}
 use Rattle.bcd.proofs.Outcomes.{after-inv, mapped-inv, demand-inv, bounded-within, all-drop}
 use Rattle.parameter.specs.Parameter.{Param, roundUp, runOctets, runLength, Fits}
-use Rattle.parameter.specs.Walk.{parameters}
+use Rattle.parameter.specs.Walk.{twoAt, parameters}
 use Rattle.parameter.proofs.RoundTrip.{run-length, run-octets, round-trip}
 use Rattle.parameter.proofs.Reading.{parameters-fit, parameters-room}
-use Rattle.message.specs.Message.{four, fourAt}
+use Rattle.address.specs.Address.{four, fourIn}
 
 -- The message types there are: the type of a class and a type, and its pair.
 pub record Kinds (K : Type 0) : Type 0 where
@@ -45,8 +45,8 @@ module _ {K : Type 0} (T : Kinds K) where
   octets-length k ps = omega (arith, run-length ps)
 
   -- The message length is the true one, also where other octets follow.
-  pub octets-declared : (k : K) (ps : List Param) (rest : List ℕ) → fourAt (octetsOf k ps ++ rest) 4 ≡ length (octetsOf k ps)
-  unfolding octetsOf fourAt
+  pub octets-declared : (k : K) (ps : List Param) (rest : List ℕ) → fourIn (drop 4 (octetsOf k ps ++ rest)) ≡ length (octetsOf k ps)
+  unfolding octetsOf twoAt
   octets-declared k ps rest = let n = length (runOctets ps) in omega arith
 
   pub octets-octets :

@@ -1,17 +1,29 @@
 -- Reading a header, refusal by refusal; and its eight octets, stored one by one.
-use Prim.Native.Nat.{ℕ, _/_, _%_, _≤_, _<_}
+use Prim.Native.Nat.{ℕ, _+_, _*_, _/_, _%_, _≤_, _<_}
 use mathlib.Core.Path.{_≡_, refl, _∙_}
 use mathlib.Core.List.{List, [], _∷_}
 use native.Mathlib.Omega.{arith}
 use borrow.Author.Tests.{le-leb, lt-leb, eq-eqb, ne-eqb}
-use lib.ListN.{length, getD, set}
+use lib.ListN.{length, getD, set, drop}
+use lib.Seq.{getD-drop}
 use Rattle.bcd.specs.Outcome.{refused, accepted, mapped, most, deliver}
 use Rattle.bcd.proofs.Outcomes.{bounded-within, bounded-beyond}
 use Rattle.bcd.proofs.Writing.{Begun, untouched, store, delivered}
+use Rattle.parameter.specs.Walk.{twoAt}
+use Rattle.address.specs.Address.{fourIn}
 use Rattle.message.specs.declared.header.ClassAndType.{ClassAndType}
 use Rattle.message.specs.declared.header.CommonHeader.{CommonHeader}
 use Rattle.message.specs.Types.{classAndType, fromClassType}
-use Rattle.message.specs.Message.{fourAt, headerWith, readHeader, writeHeader}
+use Rattle.message.specs.Message.{headerWith, readHeader, writeHeader}
+
+-- The 32-bit number at a position, octet by octet.
+pub four-there :
+    (xs : List ℕ) (at : ℕ)
+    → getD xs at 0 * 16777216 + getD xs (at + 1) 0 * 65536 + getD xs (at + 2) 0 * 256 + getD xs (at + 3) 0 ≡ fourIn (drop at xs)
+unfolding twoAt
+four-there xs at =
+    let z : at + 0 ≡ at = omega arith in
+    rw (getD-drop at xs 0 0, getD-drop at xs 1 0, getD-drop at xs 2 0, getD-drop at xs 3 0, z) (omega arith)
 
 module _ (xs : List ℕ) where
   pub header-beyond : most < length xs → readHeader xs ≡ refused 12 (length xs ∷ [])
@@ -30,7 +42,7 @@ module _ (xs : List ℕ) where
     pub header-typed :
         8 ≤ length xs
         → getD xs 0 0 ≡ 1
-        → readHeader xs ≡ mapped (λ m. headerWith m (fourAt xs 4)) (fromClassType (getD xs 2 0) (getD xs 3 0))
+        → readHeader xs ≡ mapped (λ m. headerWith m (fourIn (drop 4 xs))) (fromClassType (getD xs 2 0) (getD xs 3 0))
     unfolding readHeader
     header-typed h v = bounded-within xs _ small ∙ rw (le-leb 8 (length xs) h, eq-eqb (getD xs 0 0) 1 v)
 
@@ -50,7 +62,7 @@ pub header-written :
     → let n = h .«message_length» in
     record {
       answer = accepted 8;
-      buffer = set (set (set (set (set (set (set (set out 0 (h .version)) 1 0) 2 (pair .0)) 3 (pair .1)) 4 (n / 16777216)) 5 (n / 65536 % 256)) 6 (n / 256 % 256)) 7 (n % 256);
+      buffer = set (set (set (set (set (set (set (set out 0 (h .version)) 1 0) 2 (pair .0)) 3 (pair .1)) 4 (n / 65536 / 256)) 5 (n / 65536 % 256)) 6 (n % 65536 / 256)) 7 (n % 65536 % 256);
     }
     ≡ deliver (writeHeader h) out
 unfolding writeHeader

@@ -13,10 +13,11 @@ use Rattle.parameter.specs.Parameter.{Param, runLength, encodeParam, Fits}
 use Rattle.parameter.specs.Walk.{places, valued, parameters}
 use Rattle.parameter.proofs.Structure.{places-parameters}
 use Rattle.parameter.proofs.RoundTrip.{Sized, encode-accepts, encode-inv}
+use Rattle.address.specs.Address.{fourIn}
 use Rattle.message.specs.declared.header.MessageType.{MessageType}
 use Rattle.message.specs.declared.header.CommonHeader.{CommonHeader}
 use Rattle.message.specs.Types.{classOf, typeOf, fromClassType}
-use Rattle.message.specs.Message.{fourAt, headerWith, readHeader, Message, readMessage, messagePlaces, messageOctets, writeMessage}
+use Rattle.message.specs.Message.{headerWith, readHeader, Message, readMessage, messagePlaces, messageOctets, writeMessage}
 use Rattle.message.proofs.Types.{pair-of-type, type-of-pair, class-octet, type-octet}
 use Rattle.message.proofs.Framing.{Kinds, Paired, Framed, readOf, octetsOf, octets-length, octets-declared, octets-octets, octets-read, read-inv}
 
@@ -42,7 +43,7 @@ joined false t u a b c o len ps = refl
 
 pub message-framed : (xs : List ℕ) → readMessage xs ≡ mapped messageOf (readOf suaKinds xs)
 unfolding readMessage readHeader readOf
-message-framed xs = joined (leb (length xs) most) (leb 8 (length xs)) (eqb (getD xs 0 0) 1) _ _ _ (fromClassType (getD xs 2 0) (getD xs 3 0)) (fourAt xs 4) (parameters (drop 8 xs))
+message-framed xs = joined (leb (length xs) most) (leb 8 (length xs)) (eqb (getD xs 0 0) 1) _ _ _ (fromClassType (getD xs 2 0) (getD xs 3 0)) (fourIn (drop 4 xs)) (parameters (drop 8 xs))
 
 pub octets-framed : (m : MessageType) (ps : List Param) → messageOctets m ps ≡ octetsOf suaKinds m ps
 unfolding messageOctets octetsOf
@@ -53,7 +54,7 @@ module _ (m : MessageType) (ps : List Param) where
   message-length = ap length (octets-framed m ps) ∙ octets-length suaKinds m ps
 
   -- The message length that is written is the true one, also where other octets follow.
-  pub message-declared : (rest : List ℕ) → fourAt (messageOctets m ps ++ rest) 4 ≡ length (messageOctets m ps)
+  pub message-declared : (rest : List ℕ) → fourIn (drop 4 (messageOctets m ps ++ rest)) ≡ length (messageOctets m ps)
   message-declared rest = rw (octets-framed m ps) (octets-declared suaKinds m ps rest)
 
   pub message-octets : All Fits ps → 8 + runLength ps ≤ most → Octets (messageOctets m ps)

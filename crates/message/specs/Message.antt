@@ -1,5 +1,5 @@
 -- The common header and a message (RFC 3868, 3.1).
-use Prim.Native.Nat.{ℕ, _+_, _*_, _/_, _%_}
+use Prim.Native.Nat.{ℕ, _+_}
 use mathlib.Core.List.{List, [], _∷_, _++_}
 use lib.ListN.{length, getD, drop}
 use lib.Dec.{leb, eqb}
@@ -8,19 +8,12 @@ use Rattle.bcd.specs.Answers.{refusalOf}
 use Rattle.parameter.specs.declared.Place.{Place}
 use Rattle.parameter.specs.Parameter.{Param, runOctets, encodeParam, writable}
 use Rattle.parameter.specs.Walk.{places, parameters}
+use Rattle.address.specs.Address.{four, fourIn}
 use Rattle.message.specs.declared.header.MessageType.{MessageType}
 use Rattle.message.specs.declared.header.CommonHeader.{CommonHeader}
 use Rattle.message.specs.declared.header.HeaderRead.{HeaderRead}
 use Rattle.message.specs.declared.header.HeaderRead.the-variants as HR
 use Rattle.message.specs.Types.{classOf, typeOf, fromClassType}
-
--- A 32-bit number, the highest octet first (RFC 3868, 3.1).
-abbrev pub four : ℕ → List ℕ
-four n = n / 16777216 ∷ n / 65536 % 256 ∷ n / 256 % 256 ∷ n % 256 ∷ []
-
--- The 32-bit number at a position.
-unfoldable pub fourAt : List ℕ → ℕ → ℕ
-fourAt xs i = getD xs i 0 * 16777216 + getD xs (i + 1) 0 * 65536 + getD xs (i + 2) 0 * 256 + getD xs (i + 3) 0
 
 -- The version is 1 (RFC 3868, 3.1.1).
 abbrev pub headerWith : MessageType → (len : ℕ) → CommonHeader
@@ -36,7 +29,7 @@ readHeader xs =
     bounded xs
     (demand (leb 8 (length xs)) 1 (8 ∷ length xs ∷ [])
     (demand (eqb (getD xs 0 0) 1) 2 (getD xs 0 0 ∷ [])
-    (mapped (λ m. headerWith m (fourAt xs 4)) (fromClassType (getD xs 2 0) (getD xs 3 0)))))
+    (mapped (λ m. headerWith m (fourIn (drop 4 xs))) (fromClassType (getD xs 2 0) (getD xs 3 0)))))
 
 -- A header written alone has the version and the length that it holds.
 unfoldable pub writeHeader : CommonHeader → Outcome (List ℕ)

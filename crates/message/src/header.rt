@@ -4,11 +4,12 @@ use bcd::error::Refusal;
 ghost use mathlib.Core.Path.{_≡_};
 ghost use Prim.Native.Nat.{_+_, _≤_, _<_};
 ghost use mathlib.Core.List.{[], _∷_};
-ghost use lib.ListN.{length};
+ghost use lib.ListN.{length, drop};
 ghost use Rattle.bcd.specs.Outcome.{accepted, refused, deliver};
 ghost use Rattle.bcd.specs.Answers.{countedOf};
+ghost use Rattle.address.specs.Address.{fourIn};
 ghost use Rattle.message.specs.Types.{fromOctet, fromClassType, classAndType, classOf, classReadOf, typeReadOf};
-ghost use Rattle.message.specs.Message.{fourAt, headerWith, readHeader, writeHeader, headerReadOf};
+ghost use Rattle.message.specs.Message.{headerWith, readHeader, writeHeader, headerReadOf};
 
 // The version of SUA (RFC 3868, 3.1.1).
 pub const VERSION: u8 = 1;
@@ -296,7 +297,7 @@ fn wide(octet: u8) -> u32
 // The 32-bit number at a position, the highest octet first.
 fn four_at(bytes: &[u8], at: usize) -> u32
     requires { ⌜ at + 4 ≤ length (now bytes) ⌝ }
-    ensures { λ r. ⌜ r ≡ fourAt (now (bytes .entry)) at ⌝ }
+    ensures { λ r. ⌜ r ≡ fourIn (drop at (now (bytes .entry))) ⌝ }
 {
     let a = wide(bytes[at]);
     let b = wide(bytes[at + 1]);
@@ -357,14 +358,16 @@ impl CommonHeader {
         let message_type = self.message_type;
         let pair = message_type.class_and_type();
         let len = self.message_length;
+        let high = len / 65536;
+        let low = len % 65536;
         out[0] = self.version;
         out[1] = 0;
         out[2] = pair.0;
         out[3] = pair.1;
-        out[4] = (len / 16777216) as u8;
-        out[5] = (len / 65536 % 256) as u8;
-        out[6] = (len / 256 % 256) as u8;
-        out[7] = (len % 256) as u8;
+        out[4] = (high / 256) as u8;
+        out[5] = (high % 256) as u8;
+        out[6] = (low / 256) as u8;
+        out[7] = (low % 256) as u8;
         Counted::Count(Self::SIZE)
     }
 }

@@ -1,6 +1,6 @@
 -- `message::header::four_at` meets its contract.
 use native.Mathlib.Omega.{arith}
-use Rattle.message.specs.Message.{fourAt}
+use Rattle.message.proofs.Headers.{four-there}
 use borrow.Author.Needs.{needs}
 use Rattle.message.proofs.header.four_at.Statement.{statement}
 use Rattle.message.proofs.header.four_at.Tie as tie
@@ -57,8 +57,9 @@ add-result-3 : tie.Need-add-result-3
 add-result-3 c = search needs
 
 returns : tie.Need-returns
-unfolding fourAt
-returns c = omega arith
+returns c =
+    let a = c .before .before .before .before .before .before .before .before .before .args in
+    omega (arith, four-there (a .bytes .now) (a .at))
 
 pub four-at-spec : {M : Type 1} → statement M
 four-at-spec =

@@ -1,9 +1,10 @@
 -- `message::header::CommonHeader::decode` meets its contract.
 use mathlib.Core.Path.{_≡_, sym, ap, _∙_}
-use lib.ListN.{getD}
+use lib.ListN.{getD, drop}
 use Rattle.bcd.specs.Outcome.{accepted, mapped}
+use Rattle.address.specs.Address.{fourIn}
 use Rattle.message.specs.Types.{fromClassType, typeReadOf}
-use Rattle.message.specs.Message.{fourAt, headerWith, readHeader}
+use Rattle.message.specs.Message.{headerWith, readHeader}
 use Rattle.message.proofs.Headers.{header-beyond, header-short, header-version, header-typed}
 use borrow.Author.Needs.{needs}
 use Rattle.message.proofs.header.CommonHeader.decode.Statement.{statement}
@@ -12,7 +13,7 @@ use Rattle.message.proofs.header.CommonHeader.decode.Tie as tie
 typed :
     (c : tie.After-from-class-type)
     → let xs = c .before .before .before .before .before .before .before .before .args .bytes .now in
-    readHeader xs ≡ mapped (λ m. headerWith m (fourAt xs 4)) (fromClassType (getD xs 2 0) (getD xs 3 0))
+    readHeader xs ≡ mapped (λ m. headerWith m (fourIn (drop 4 xs))) (fromClassType (getD xs 2 0) (getD xs 3 0))
 typed c =
     let v = c .before .before .before in
     let s = v .before .before in

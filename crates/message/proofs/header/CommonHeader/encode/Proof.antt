@@ -52,7 +52,7 @@ slice-write-out-8 : tie.Need-slice-write-out-8
 slice-write-out-8 c = simp length-set (omega arith)
 
 same-length : tie.Need-same-length
-same-length c = search needs
+same-length c = simp length-set
 
 returns-2 : tie.Need-returns-2
 returns-2 c = let s = c .before .before .before in header-written (s .args .self) (c .class-and-type .result) (s .args .out .now) (c .class-and-type .ensures) (c .before .if1 .left)

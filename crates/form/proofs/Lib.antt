@@ -1,3 +1,4 @@
 pub mod Family
 pub mod Forms
 pub mod Refusals
+pub mod Sua

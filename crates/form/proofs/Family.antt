@@ -13,7 +13,7 @@ pub record Family (K M : Type 0) : Type 0 where
   pub mean : Param → Outcome (List M)
   pub write : M → Outcome (List Param)
 
-pub record Meaning (K M : Type 0) : Type 0 where
+pub record Meant (K M : Type 0) : Type 0 where
   pub kind : K
   pub parts : List M
 
@@ -26,7 +26,7 @@ module _ {K M : Type 0} (F : Family K M) where
   unfoldable pub settledOf : List ℕ → Outcome (List ℕ)
   settledOf xs = after (readOf (F .kinds) xs) (λ m. mapped (octetsOf (F .kinds) (m .kind)) (each norm (m .params)))
 
-  unfoldable pub meaningOf : List ℕ → Outcome (Meaning K M)
+  unfoldable pub meaningOf : List ℕ → Outcome (Meant K M)
   meaningOf xs = after (readOf (F .kinds) xs) (λ m. mapped (λ ms. record { kind = m .kind; parts = ms }) (each (F .mean) (m .params)))
 
   -- What is owed of the parameters qs that the parts ms of a parameter p are written as.
@@ -35,7 +35,7 @@ module _ {K M : Type 0} (F : Family K M) where
     pub room : runLength qs ≤ paddedLength (length (p .value))
     pub reads : each (F .mean) qs ≡ accepted ms
 
-  pub record Lawful : Type 0 where
+  pub record LawfulFamily : Type 0 where
     pub paired : Paired (F .kinds)
     pub writes :
         (p : Param) (ms : List M) (qs : List Param)

@@ -4,13 +4,14 @@ use mathlib.Core.Path.{_≡_, refl, sym, ap, ap₂, _∙_, subst}
 use mathlib.Core.Logic.{_↔_}
 use mathlib.Core.List.{List, [], _∷_, _++_}
 use native.Mathlib.Omega.{arith}
-use lib.ListN.{length}
+use lib.ListN.{length, drop}
 use Rattle.bcd.specs.Outcome.{accepted, after, mapped, each, All, Octets, most}
 use Rattle.bcd.proofs.Outcomes.{accepted-inj, after-inv, mapped-inv, each-cons, each-inv, each-append, each-split, all-append, octets-at}
 use Rattle.parameter.specs.Parameter.{Param, roundUp, runLength, Fits}
 use Rattle.parameter.proofs.RoundTrip.{run-length-append}
-use Rattle.message.proofs.Framing.{Framed, readOf, octetsOf, octets-length, octets-octets, octets-read, read-inv, read-fits, read-room}
-use Rattle.form.proofs.Family.{Family, Meaning, norm, settledOf, meaningOf, Lawful}
+use Rattle.address.specs.Address.{fourIn}
+use Rattle.message.proofs.Framing.{Framed, readOf, octetsOf, octets-length, octets-declared, octets-octets, octets-read, read-inv, read-fits, read-room}
+use Rattle.form.proofs.Family.{Family, Meant, norm, settledOf, meaningOf, LawfulFamily}
 
 module _ {K M : Type 0} (F : Family K M) where
   -- Parameters that were read and written again, one after the other.
@@ -34,7 +35,7 @@ module _ {K M : Type 0} (F : Family K M) where
       let (u, v, hu, hv, i) = each-split (F .write) s t qs (ap (each (F .write)) j ∙ d) in
       each-cons (norm F) p ps u v (ap (λ o. after o (each (F .write))) hs ∙ hu) (each-norm ps t v ht hv) ∙ ap accepted i
 
-  module _ (L : Lawful F) where
+  module _ (L : LawfulFamily F) where
     rewritten : (ps qs : List Param) → All Fits ps → each (norm F) ps ≡ accepted qs → Rewritten ps qs
     unfolding runLength
     rewritten [] qs fs e =
@@ -96,7 +97,7 @@ module _ {K M : Type 0} (F : Family K M) where
       known = formed xs f o e
 
       -- The meaning of a message that has a form.
-      pub meant : Meaning K M
+      pub meant : Meant K M
       meant = let k = known in record { kind = k .kind; parts = k .rewrites .parts }
 
       pub means : meaningOf F xs ≡ accepted meant
@@ -135,6 +136,10 @@ module _ {K M : Type 0} (F : Family K M) where
           let k = known in
           let l = ap length (k .octets) ∙ octets-length (F .kinds) (k .kind) (k .new) in
           (omega (arith, k .room), omega (arith, k .small))
+
+      -- The message length in a form is the true one, also where other octets follow.
+      pub form-declared : (rest : List ℕ) → fourIn (drop 4 (f ++ rest)) ≡ length f
+      form-declared rest = let k = known in subst (λ f. fourIn (drop 4 (f ++ rest)) ≡ length f) (sym (k .octets)) (octets-declared (F .kinds) (k .kind) (k .new) rest)
 
       pub form-octets : Octets f
       form-octets =

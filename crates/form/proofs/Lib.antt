@@ -2,3 +2,5 @@ pub mod Family
 pub mod Forms
 pub mod Refusals
 pub mod Sua
+pub mod Settled
+pub mod Demand3

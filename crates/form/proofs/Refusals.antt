@@ -87,6 +87,44 @@ module _ {A B : Type 0} (f : A → Outcome (List B)) where
   pub each-accepts : (xs : List A) → ((ys : List B) × (each f xs ≡ accepted ys)) ↔ All Accepts xs
   each-accepts xs = ((λ (ys, e). each-all xs ys e), all-each xs)
 
+pub all-iff : {A : Type 0} (P Q : A → Type 0) → ((x : A) → P x ↔ Q x) → (xs : List A) → All P xs ↔ All Q xs
+all-iff P Q e [] = ((λ h. h), (λ h. h))
+all-iff P Q e (x ∷ xs) = (
+  (λ h. (e x .0 (h .0), all-iff P Q e xs .0 (h .1))),
+  (λ h. (e x .1 (h .0), all-iff P Q e xs .1 (h .1))),
+)
+
+-- A message is read, each of its elements is put through f, and what they give is written.
+module _ {X A B C : Type 0} (o : Outcome X) (elements : X → List A) (f : A → Outcome (List B)) (write : X → List B → C) where
+  abbrev pub through : Outcome C
+  through = after o (λ m. mapped (write m) (each f (elements m)))
+
+  pub through-accepts : ((c : C) × (through ≡ accepted c)) ↔ ((m : X) × (o ≡ accepted m) × All (Accepts f) (elements m))
+  through-accepts = (to, from)
+    where
+      to : (c : C) × (through ≡ accepted c) → (m : X) × (o ≡ accepted m) × All (Accepts f) (elements m)
+      to (c, e) =
+          let (m, hm, e1) = after-inv o _ e in
+          let (ys, hy, j) = mapped-inv (write m) (each f (elements m)) e1 in
+          (m, hm, each-accepts f (elements m) .0 (ys, hy))
+
+      from : (m : X) × (o ≡ accepted m) × All (Accepts f) (elements m) → (c : C) × (through ≡ accepted c)
+      from (m, hm, h) = let (ys, hy) = each-accepts f (elements m) .1 h in (write m ys, rw (hm, hy))
+
+  pub through-refuses :
+      (n : ℕ) (vs : List ℕ)
+      → (through ≡ refused n vs) ↔ ((o ≡ refused n vs) ⊎ ((m : X) × (o ≡ accepted m) × FirstRefused f (elements m) n vs))
+  through-refuses n vs =
+      let (to, from) = after-refuses o (λ m. mapped (write m) (each f (elements m))) n vs in
+      let inner : (m : X) → (mapped (write m) (each f (elements m)) ≡ refused n vs) ↔ FirstRefused f (elements m) n vs =
+      λ m.
+      let (a, b) = mapped-refuses (write m) (each f (elements m)) n vs in
+      let (c, d) = each-refuses f (elements m) n vs in
+      ((λ e. c (a e)), (λ r. b (d r))) in (
+        (λ e. ⊎-elim inl (λ (m, hm, h). inr (m, hm, inner m .0 h)) (to e)),
+        (λ w. from (⊎-elim inl (λ (m, hm, r). inr (m, hm, inner m .1 r)) w)),
+      )
+
 module _ {K M : Type 0} (F : Family K M) where
   -- A parameter that is read, and each of whose parts is written.
   abbrev pub Rewritable : Param → Type 0
@@ -94,15 +132,8 @@ module _ {K M : Type 0} (F : Family K M) where
 
   rewritable : (p : Param) → Accepts (norm F) p ↔ Rewritable p
   rewritable p = (
-    (λ (qs, e). let (ms, hm, hw) = after-inv (F .mean p) _ e in (ms, hm, each-all (F .write) ms qs hw)),
-    (λ (ms, hm, hw). let (qs, hq) = all-each (F .write) ms hw in (qs, ap (λ o. after o (each (F .write))) hm ∙ hq)),
-  )
-
-  all-rewritable : (ps : List Param) → All (Accepts (norm F)) ps ↔ All Rewritable ps
-  all-rewritable [] = ((λ h. h), (λ h. h))
-  all-rewritable (p ∷ ps) = (
-    (λ h. (rewritable p .0 (h .0), all-rewritable ps .0 (h .1))),
-    (λ h. (rewritable p .1 (h .0), all-rewritable ps .1 (h .1))),
+    (λ (qs, e). let (ms, hm, hw) = after-inv (F .mean p) _ e in (ms, hm, each-accepts (F .write) ms .0 (qs, hw))),
+    (λ (ms, hm, hw). let (qs, hq) = each-accepts (F .write) ms .1 hw in (qs, ap (λ o. after o (each (F .write))) hm ∙ hq)),
   )
 
   module _ (xs : List ℕ) where
@@ -111,18 +142,13 @@ module _ {K M : Type 0} (F : Family K M) where
         ((f : List ℕ) × (settledOf F xs ≡ accepted f))
         ↔ ((m : Framed K) × (readOf (F .kinds) xs ≡ accepted m) × All Rewritable (m .params))
     unfolding settledOf
-    has-form = (to, from)
-      where
-        to : (f : List ℕ) × (settledOf F xs ≡ accepted f) → (m : Framed K) × (readOf (F .kinds) xs ≡ accepted m) × All Rewritable (m .params)
-        to (f, e) =
-            let (m, hm, e1) = after-inv (readOf (F .kinds) xs) _ e in
-            let (qs, hq, j) = mapped-inv _ (each (norm F) (m .params)) e1 in
-            (m, hm, all-rewritable (m .params) .0 (each-all (norm F) (m .params) qs hq))
-
-        from : (m : Framed K) × (readOf (F .kinds) xs ≡ accepted m) × All Rewritable (m .params) → (f : List ℕ) × (settledOf F xs ≡ accepted f)
-        from (m, hm, h) =
-            let (qs, hq) = all-each (norm F) (m .params) (all-rewritable (m .params) .1 h) in
-            (octetsOf (F .kinds) (m .kind) qs, rw (hm, hq))
+    has-form =
+        let (to, from) = through-accepts (readOf (F .kinds) xs) (λ m. m .params) (norm F) (λ m. octetsOf (F .kinds) (m .kind)) in
+        let each : (m : Framed K) → All (Accepts (norm F)) (m .params) ↔ All Rewritable (m .params) =
+        λ m. all-iff (Accepts (norm F)) Rewritable rewritable (m .params) in (
+          (λ w. let (m, hm, h) = to w in (m, hm, each m .0 h)),
+          (λ (m, hm, h). from (m, hm, each m .1 h)),
+        )
 
     -- Settling refuses as reading does, or else with the first refusal of a parameter's reading and writing, in wire order.
     pub refusals :
@@ -131,11 +157,7 @@ module _ {K M : Type 0} (F : Family K M) where
         ↔ ((readOf (F .kinds) xs ≡ refused n vs)
         ⊎ ((m : Framed K) × (readOf (F .kinds) xs ≡ accepted m) × FirstRefused (norm F) (m .params) n vs))
     unfolding settledOf
-    refusals n vs =
-        let a = after-refuses (readOf (F .kinds) xs) (λ m. mapped (octetsOf (F .kinds) (m .kind)) (each (norm F) (m .params))) n vs in (
-          (λ e. ⊎-elim inl (λ (m, hm, h). inr (m, hm, each-refuses (norm F) (m .params) n vs .0 (mapped-refuses _ (each (norm F) (m .params)) n vs .0 h))) (a .0 e)),
-          (λ w. a .1 (⊎-elim inl (λ (m, hm, r). inr (m, hm, mapped-refuses _ (each (norm F) (m .params)) n vs .1 (each-refuses (norm F) (m .params) n vs .1 r))) w)),
-        )
+    refusals = through-refuses (readOf (F .kinds) xs) (λ m. m .params) (norm F) (λ m. octetsOf (F .kinds) (m .kind))
 
   -- A parameter is refused by its reading, or else by the first of its parts that is not written.
   pub parameter-refusals :
@@ -143,7 +165,7 @@ module _ {K M : Type 0} (F : Family K M) where
       → (norm F p ≡ refused n vs)
       ↔ ((F .mean p ≡ refused n vs) ⊎ ((ms : List M) × (F .mean p ≡ accepted ms) × FirstRefused (F .write) ms n vs))
   parameter-refusals p n vs =
-      let a = after-refuses (F .mean p) (each (F .write)) n vs in (
-        (λ e. ⊎-elim inl (λ (ms, hm, h). inr (ms, hm, each-refuses (F .write) ms n vs .0 h)) (a .0 e)),
-        (λ w. a .1 (⊎-elim inl (λ (ms, hm, r). inr (ms, hm, each-refuses (F .write) ms n vs .1 r)) w)),
+      let (to, from) = after-refuses (F .mean p) (each (F .write)) n vs in (
+        (λ e. ⊎-elim inl (λ (ms, hm, h). inr (ms, hm, each-refuses (F .write) ms n vs .0 h)) (to e)),
+        (λ w. from (⊎-elim inl (λ (ms, hm, r). inr (ms, hm, each-refuses (F .write) ms n vs .1 r)) w)),
       )

@@ -2,10 +2,11 @@
 use Prim.Native.Nat.{ℕ, _+_}
 use mathlib.Core.Path.{_≡_, refl, sym, ap, ap₂, _∙_, subst₂}
 use mathlib.Core.Bool.{Bool, true, false}
+use mathlib.Core.Logic.{_↔_}
 use mathlib.Core.List.{List, [], _∷_, _++_}
 use native.Mathlib.Omega.{arith}
 use Rattle.bcd.specs.Outcome.{Outcome, accepted, refused, pick, after, mapped, each}
-use Rattle.bcd.specs.Digits.{Alphabet}
+use Rattle.bcd.specs.Digits.{Alphabet, Lawful}
 use Rattle.bcd.proofs.Outcomes.{accepted-inj, mapped-inv, mapped-mapped, each-cons, each-inv}
 use Rattle.parameter.specs.Parameter.{Param, runLength, Fits}
 use Rattle.address.specs.Address.{Address, addressIn, writeAddress, rewriteAddress}
@@ -15,7 +16,7 @@ use Rattle.message.specs.Message.{messageOctets}
 use Rattle.message.proofs.Framing.{Framed, readOf, octetsOf}
 use Rattle.message.proofs.Messages.{suaKinds, sua-paired, messageOf, message-framed, octets-framed}
 use Rattle.form.specs.Form.{isAddress, settledParam, settled, Part, raw, address, partIn, Meaning, meaning}
-use Rattle.form.proofs.Family.{Family, norm, settledOf, meaningOf, Written, Lawful}
+use Rattle.form.proofs.Family.{Family, Meant, norm, settledOf, meaningOf, Written, LawfulFamily}
 
 -- How a part is written.
 abbrev pub writePart : Alphabet → Part → Outcome (List Param)
@@ -25,7 +26,7 @@ writePart A (address tag a) = mapped (λ w. record { tag = tag; value = w } ∷ 
 abbrev pub sua : Alphabet → Family MessageType Part
 sua A = record { kinds = suaKinds; mean = partIn A; write = writePart A }
 
-abbrev pub meantBy : MeaningOf MessageType Part → Meaning
+abbrev pub meantBy : Meant MessageType Part → Meaning
 meantBy m = record { type = m .kind; parts = m .parts }
 
 mapped-same : {A B : Type 0} {f g : A → B} (o : Outcome A) → ((a : A) → f a ≡ g a) → mapped f o ≡ mapped g o
@@ -58,7 +59,7 @@ module _ (A : Alphabet) where
   params-norm [] = refl
   params-norm (p ∷ ps) = ap₂ (λ o r. after o (λ ys. mapped (λ zs. ys ++ zs) r)) (param-norm p) (params-norm ps)
 
-  settled-framed : (xs : List ℕ) → settled A xs ≡ settledOf (sua A) xs
+  pub settled-framed : (xs : List ℕ) → settled A xs ≡ settledOf (sua A) xs
   unfolding settled settledOf
   settled-framed xs = ap (λ o. after o (λ m. mapped (messageOctets (m .type)) (each (settledParam A) (m .params)))) (message-framed xs) ∙ on (readOf suaKinds xs)
     where
@@ -69,7 +70,7 @@ module _ (A : Alphabet) where
       on (accepted m) = ap (mapped (messageOctets (m .kind))) (params-norm (m .params)) ∙ mapped-same (each (norm (sua A)) (m .params)) (octets-framed (m .kind))
       on (refused n vs) = refl
 
-  meaning-framed : (xs : List ℕ) → meaning A xs ≡ mapped meantBy (meaningOf (sua A) xs)
+  pub meaning-framed : (xs : List ℕ) → meaning A xs ≡ mapped meantBy (meaningOf (sua A) xs)
   unfolding meaning meaningOf
   meaning-framed xs = ap (λ o. after o (λ m. mapped (λ ps. record { type = m .type; parts = ps }) (each (partIn A) (m .params)))) (message-framed xs) ∙ on (readOf suaKinds xs)
     where
@@ -79,6 +80,20 @@ module _ (A : Alphabet) where
           ≡ mapped meantBy (after o (λ m. mapped (λ ps. record { kind = m .kind; parts = ps }) (each (partIn A) (m .params))))
       on (accepted m) = sym (mapped-mapped meantBy _ (each (partIn A) (m .params)))
       on (refused n vs) = refl
+
+  -- Meanings are the same exactly where the family's are.
+  pub meaning-same : (xs ys : List ℕ) → (meaning A xs ≡ meaning A ys) ↔ (meaningOf (sua A) xs ≡ meaningOf (sua A) ys)
+  meaning-same xs ys = (
+    (λ e. sym (back (meaningOf (sua A) xs)) ∙ ap (mapped kept) (sym (meaning-framed xs) ∙ e ∙ meaning-framed ys) ∙ back (meaningOf (sua A) ys)),
+    (λ e. meaning-framed xs ∙ ap (mapped meantBy) e ∙ sym (meaning-framed ys)),
+  )
+    where
+      kept : Meaning → Meant MessageType Part
+      kept m = record { kind = m .type; parts = m .parts }
+
+      back : (o : Outcome (Meant MessageType Part)) → mapped kept (mapped meantBy o) ≡ o
+      back (accepted m) = refl
+      back (refused n vs) = refl
 
   mean-raw : (p : Param) → isAddress (p .tag) ≡ false → partIn A p ≡ accepted (raw p ∷ [])
   unfolding partIn
@@ -101,7 +116,7 @@ module _ (A : Alphabet) where
   -- From an address that was read, what is written fits, takes no more room and reads as that address; any other parameter
   -- is written as it is.
   writes :
-      LawfulAlphabet A
+      Lawful A
       → (p : Param) (ms : List Part) (qs : List Param)
       → Fits p
       → partIn A p ≡ accepted ms
@@ -129,5 +144,5 @@ module _ (A : Alphabet) where
             reads = each-cons (partIn A) p [] (raw p ∷ []) [] (mean-raw p h) refl;
           })
 
-  pub sua-lawful : LawfulAlphabet A → Lawful (sua A)
+  pub sua-lawful : Lawful A → LawfulFamily (sua A)
   sua-lawful L = record { paired = sua-paired; writes = writes L }

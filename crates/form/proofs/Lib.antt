@@ -4,3 +4,4 @@ pub mod Refusals
 pub mod Sua
 pub mod Settled
 pub mod Demand3
+pub mod Worked

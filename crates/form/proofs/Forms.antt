@@ -139,7 +139,9 @@ module _ {K M : Type 0} (F : Family K M) where
 
       -- The message length in a form is the true one, also where other octets follow.
       pub form-declared : (rest : List ℕ) → fourIn (drop 4 (f ++ rest)) ≡ length f
-      form-declared rest = let k = known in subst (λ f. fourIn (drop 4 (f ++ rest)) ≡ length f) (sym (k .octets)) (octets-declared (F .kinds) (k .kind) (k .new) rest)
+      form-declared rest =
+          let k = known in
+          subst (λ f. fourIn (drop 4 (f ++ rest)) ≡ length f) (sym (k .octets)) (octets-declared (F .kinds) (k .kind) (k .new) rest)
 
       pub form-octets : Octets f
       form-octets =

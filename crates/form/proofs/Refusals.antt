@@ -10,7 +10,10 @@ use Rattle.message.proofs.Framing.{Framed, readOf, octetsOf}
 use Rattle.form.proofs.Family.{Family, norm, settledOf}
 
 -- A refusal that is passed on.
-pub passed-on : {A B : Type 0} {m n : ℕ} {vs ws : List ℕ} → _≡_ {A = Outcome A} (refused m vs) (refused n ws) → _≡_ {A = Outcome B} (refused m vs) (refused n ws)
+pub passed-on :
+    {A B : Type 0} {m n : ℕ} {vs ws : List ℕ}
+    → _≡_ {A = Outcome A} (refused m vs) (refused n ws)
+    → _≡_ {A = Outcome B} (refused m vs) (refused n ws)
 passed-on {A} {B} {m} {n} {vs} {ws} e = let a : m ≡ n = cc in let b : vs ≡ ws = cc in rw (a, b)
 
 pub mapped-refuses : {A B : Type 0} (f : A → B) (o : Outcome A) (n : ℕ) (vs : List ℕ) → (mapped f o ≡ refused n vs) ↔ (o ≡ refused n vs)

@@ -12,10 +12,11 @@ use Rattle.bcd.proofs.Outcomes.{never, after-inv, mapped-inv}
 use Rattle.parameter.specs.Parameter.{Param, roundUp, runLength}
 use Rattle.parameter.proofs.RoundTrip.{all-sized}
 use Rattle.address.specs.Address.{Address, fourIn, addressIn, writeAddress, rewriteAddress}
+use Rattle.message.specs.declared.header.MessageType.{MessageType}
 use Rattle.message.specs.Message.{Message, readMessage, messageOctets, writeMessage}
 use Rattle.message.proofs.Messages.{messageOf, message-framed, octets-framed, message-written}
-use Rattle.form.specs.Form.{isAddress, settledParam, settled, Meaning, meaning}
-use Rattle.form.proofs.Family.{settledOf, meaningOf}
+use Rattle.form.specs.Form.{isAddress, settledParam, settled, Part, Meaning, meaning}
+use Rattle.form.proofs.Family.{Meant, settledOf, meaningOf}
 use Rattle.form.proofs.Forms as F
 use Rattle.form.proofs.Refusals.{mapped-refuses, after-refuses, FirstRefused, Accepts, all-iff, through-accepts, through-refuses}
 use Rattle.form.proofs.Sua.{sua, meantBy, settled-framed, meaning-framed, meaning-same, sua-lawful}
@@ -25,7 +26,10 @@ module _ (A : Alphabet) (L : Lawful A) where
     framed : settledOf (sua A) xs ≡ accepted f
     framed = sym (settled-framed A xs) ∙ e
 
-    meant : (ys : List ℕ) → meaningOf (sua A) ys ≡ accepted (F.meant (sua A) (sua-lawful A L) xs f o framed) → meaning A ys ≡ accepted (meantBy (F.meant (sua A) (sua-lawful A L) xs f o framed))
+    abbrev known : Meant MessageType Part
+    known = F.meant (sua A) (sua-lawful A L) xs f o framed
+
+    meant : (ys : List ℕ) → meaningOf (sua A) ys ≡ accepted known → meaning A ys ≡ accepted (meantBy known)
     meant ys h = meaning-framed A ys ∙ ap (mapped meantBy) h
 
     -- Read back: a form means what the message meant, and it is read, with its addresses, without refusal.
@@ -51,7 +55,8 @@ module _ (A : Alphabet) (L : Lawful A) where
         let k = F.formed (sua A) (sua-lawful A L) xs f o framed in (
           record { type = k .kind; params = k .new },
           message-framed f ∙ ap (mapped messageOf) (k .reread),
-          message-written (k .kind) (k .new) (all-sized (k .new) (k .rewrites .fits)) (k .small) ∙ ap accepted (octets-framed (k .kind) (k .new) ∙ sym (k .octets)),
+          message-written (k .kind) (k .new) (all-sized (k .new) (k .rewrites .fits)) (k .small)
+              ∙ ap accepted (octets-framed (k .kind) (k .new) ∙ sym (k .octets)),
         )
 
     -- Room: a form is never longer than the octets given, rounded up to a multiple of 4, nor than the most that may be given.
@@ -81,7 +86,9 @@ module _ (A : Alphabet) (L : Lawful A) where
 module _ (A : Alphabet) where
   -- A parameter can be settled unless it is an address that is not read, or not written again.
   abbrev pub Settles : Param → Type 0
-  Settles p = isAddress (p .tag) ≡ true → (a : Address) × (addressIn A (p .value) ≡ accepted a) × ((w : List ℕ) × (writeAddress A (p .tag) a ≡ accepted w))
+  Settles p =
+      isAddress (p .tag) ≡ true
+      → (a : Address) × (addressIn A (p .value) ≡ accepted a) × ((w : List ℕ) × (writeAddress A (p .tag) a ≡ accepted w))
 
   settles : (p : Param) → Accepts (settledParam A) p ↔ Settles p
   unfolding settledParam rewriteAddress
@@ -130,7 +137,9 @@ module _ (A : Alphabet) where
   param-refusals p n vs = on (isAddress (p .tag)) refl
     where
       Address-refused : Type 0
-      Address-refused = ((addressIn A (p .value) ≡ refused n vs) ⊎ ((a : Address) × (addressIn A (p .value) ≡ accepted a) × (writeAddress A (p .tag) a ≡ refused n vs)))
+      Address-refused =
+          (addressIn A (p .value) ≡ refused n vs)
+          ⊎ ((a : Address) × (addressIn A (p .value) ≡ accepted a) × (writeAddress A (p .tag) a ≡ refused n vs))
 
       on : (t : Bool) → isAddress (p .tag) ≡ t → (settledParam A p ≡ refused n vs) ↔ ((isAddress (p .tag) ≡ true) × Address-refused)
       on true h =

@@ -61,18 +61,24 @@ module _ (A : Alphabet) where
 
   pub settled-framed : (xs : List ℕ) → settled A xs ≡ settledOf (sua A) xs
   unfolding settled settledOf
-  settled-framed xs = ap (λ o. after o (λ m. mapped (messageOctets (m .type)) (each (settledParam A) (m .params)))) (message-framed xs) ∙ on (readOf suaKinds xs)
+  settled-framed xs =
+      ap (λ o. after o (λ m. mapped (messageOctets (m .type)) (each (settledParam A) (m .params)))) (message-framed xs)
+      ∙ on (readOf suaKinds xs)
     where
       on :
           (o : Outcome (Framed MessageType))
           → after (mapped messageOf o) (λ m. mapped (messageOctets (m .type)) (each (settledParam A) (m .params)))
           ≡ after o (λ m. mapped (octetsOf suaKinds (m .kind)) (each (norm (sua A)) (m .params)))
-      on (accepted m) = ap (mapped (messageOctets (m .kind))) (params-norm (m .params)) ∙ mapped-same (each (norm (sua A)) (m .params)) (octets-framed (m .kind))
+      on (accepted m) =
+          ap (mapped (messageOctets (m .kind))) (params-norm (m .params))
+          ∙ mapped-same (each (norm (sua A)) (m .params)) (octets-framed (m .kind))
       on (refused n vs) = refl
 
   pub meaning-framed : (xs : List ℕ) → meaning A xs ≡ mapped meantBy (meaningOf (sua A) xs)
   unfolding meaning meaningOf
-  meaning-framed xs = ap (λ o. after o (λ m. mapped (λ ps. record { type = m .type; parts = ps }) (each (partIn A) (m .params)))) (message-framed xs) ∙ on (readOf suaKinds xs)
+  meaning-framed xs =
+      ap (λ o. after o (λ m. mapped (λ ps. record { type = m .type; parts = ps }) (each (partIn A) (m .params)))) (message-framed xs)
+      ∙ on (readOf suaKinds xs)
     where
       on :
           (o : Outcome (Framed MessageType))
@@ -99,7 +105,11 @@ module _ (A : Alphabet) where
   unfolding partIn
   mean-raw p h = rw h
 
-  mean-address : (tag : ℕ) (w : List ℕ) (a : Address) → isAddress tag ≡ true → addressIn A w ≡ accepted a → partIn A (record { tag = tag; value = w }) ≡ accepted (address tag a ∷ [])
+  mean-address :
+      (tag : ℕ) (w : List ℕ) (a : Address)
+      → isAddress tag ≡ true
+      → addressIn A w ≡ accepted a
+      → partIn A (record { tag = tag; value = w }) ≡ accepted (address tag a ∷ [])
   unfolding partIn
   mean-address tag w a h e = rw (h, e)
 
@@ -130,10 +140,11 @@ module _ (A : Alphabet) where
           let (a, ha, m) = mapped-inv (λ a. address (p .tag) a ∷ []) (addressIn A (p .value)) (rw h at e) in
           let (w, hw, q) = address-written (p .tag) a qs (ap (each (writePart A)) m ∙ d) in
           let r = rewritten A L (p .tag) (p .value) w a (f .octets) ha hw in
+          let new : Param = record { tag = p .tag; value = w } in
           subst₂ (Written (sua A) p) m q (record {
             fits = (record { tag = f .tag; size = r .size; octets = r .octets }, tt);
             room = omega (arith, r .room);
-            reads = each-cons (partIn A) (record { tag = p .tag; value = w }) [] (address (p .tag) a ∷ []) [] (mean-address (p .tag) w a h (r .reads)) refl;
+            reads = each-cons (partIn A) new [] (address (p .tag) a ∷ []) [] (mean-address (p .tag) w a h (r .reads)) refl;
           })
       on false h =
           let m : raw p ∷ [] ≡ ms = accepted-inj (sym (mean-raw p h) ∙ e) in

@@ -46,10 +46,10 @@ module _ (xs : List ℕ) where
     unfolding readHeader
     header-typed h v = bounded-within xs _ small ∙ rw (le-leb 8 (length xs) h, eq-eqb (getD xs 0 0) 1 v)
 
-eight-stored :
-    (out : List ℕ) (a b c d e f g h : ℕ)
-    → 8 ≤ length out
-    → Begun out (a ∷ b ∷ c ∷ d ∷ e ∷ f ∷ g ∷ h ∷ []) (set (set (set (set (set (set (set (set out 0 a) 1 b) 2 c) 3 d) 4 e) 5 f) 6 g) 7 h)
+abbrev pub stored : List ℕ → (a b c d e f g h : ℕ) → List ℕ
+stored out a b c d e f g h = set (set (set (set (set (set (set (set out 0 a) 1 b) 2 c) 3 d) 4 e) 5 f) 6 g) 7 h
+
+eight-stored : (out : List ℕ) (a b c d e f g h : ℕ) → 8 ≤ length out → Begun out (a ∷ b ∷ c ∷ d ∷ e ∷ f ∷ g ∷ h ∷ []) (stored out a b c d e f g h)
 eight-stored out a b c d e f g h n =
     store 7 h (store 6 g (store 5 f (store 4 e (store 3 d (store 2 c (store 1 b (store 0 a (untouched out)
     refl (omega arith)) refl (omega arith)) refl (omega arith)) refl (omega arith))
@@ -62,7 +62,7 @@ pub header-written :
     → let n = h .«message_length» in
     record {
       answer = accepted 8;
-      buffer = set (set (set (set (set (set (set (set out 0 (h .version)) 1 0) 2 (pair .0)) 3 (pair .1)) 4 (n / 65536 / 256)) 5 (n / 65536 % 256)) 6 (n % 65536 / 256)) 7 (n % 65536 % 256);
+      buffer = stored out (h .version) 0 (pair .0) (pair .1) (n / 65536 / 256) (n / 65536 % 256) (n % 65536 / 256) (n % 65536 % 256);
     }
     ≡ deliver (writeHeader h) out
 unfolding writeHeader

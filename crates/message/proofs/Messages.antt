@@ -33,7 +33,8 @@ messageOf m = record { type = m .kind; params = m .params }
 
 joined :
     (s t u : Bool) (a b c : List ℕ) (o : Outcome MessageType) (len : ℕ) (ps : Outcome (List Param))
-    → after (demand s 12 a (demand t 1 b (demand u 2 c (mapped (λ m. headerWith m len) o)))) (λ h. mapped (λ ps. record { type = h .«message_type»; params = ps }) ps)
+    → after (demand s 12 a (demand t 1 b (demand u 2 c (mapped (λ m. headerWith m len) o))))
+    (λ h. mapped (λ ps. record { type = h .«message_type»; params = ps }) ps)
     ≡ mapped messageOf (demand s 12 a (demand t 1 b (demand u 2 c (after o (λ k. mapped (λ ps. record { kind = k; params = ps }) ps)))))
 joined true true true a b c (accepted m) len ps = sym (mapped-mapped _ _ ps)
 joined true true true a b c (refused n vs) len ps = refl
@@ -43,7 +44,9 @@ joined false t u a b c o len ps = refl
 
 pub message-framed : (xs : List ℕ) → readMessage xs ≡ mapped messageOf (readOf suaKinds xs)
 unfolding readMessage readHeader readOf
-message-framed xs = joined (leb (length xs) most) (leb 8 (length xs)) (eqb (getD xs 0 0) 1) _ _ _ (fromClassType (getD xs 2 0) (getD xs 3 0)) (fourIn (drop 4 xs)) (parameters (drop 8 xs))
+message-framed xs =
+    joined (leb (length xs) most) (leb 8 (length xs)) (eqb (getD xs 0 0) 1) _ _ _ (fromClassType (getD xs 2 0) (getD xs 3 0)) (fourIn (drop 4 xs))
+    (parameters (drop 8 xs))
 
 pub octets-framed : (m : MessageType) (ps : List Param) → messageOctets m ps ≡ octetsOf suaKinds m ps
 unfolding messageOctets octetsOf

@@ -50,7 +50,8 @@ unfolding fromClassType
 returns-12 c =
     let t = c .before .before .args .msg-type in
     c .unknown .ensures
-    ∙ ⊎-elim (λ w. rw (w .keys12)) (λ w. sym (other-type 8 t (11 ∷ 10 ∷ 9 ∷ 8 ∷ 7 ∷ 6 ∷ 5 ∷ 4 ∷ 3 ∷ 2 ∷ 1 ∷ []) (w .rest .0) refl)) (c .before .match .came)
+    ∙ ⊎-elim (λ w. rw (w .keys12))
+    (λ w. sym (other-type 8 t (11 ∷ 10 ∷ 9 ∷ 8 ∷ 7 ∷ 6 ∷ 5 ∷ 4 ∷ 3 ∷ 2 ∷ 1 ∷ []) (w .rest .0) refl)) (c .before .match .came)
 
 pub connection-oriented-spec : {M : Type 1} → statement M
 connection-oriented-spec =

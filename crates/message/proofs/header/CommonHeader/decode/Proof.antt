@@ -55,7 +55,9 @@ new-requires : tie.Need-new-requires
 new-requires c κs = search needs
 
 returns-4 : tie.Need-returns-4
-returns-4 c = let f = c .before .before .before in sym (typed f ∙ ap (mapped _) (sym (f .from-class-type .ensures) ∙ ap typeReadOf (c .before .r .given .1)))
+returns-4 c =
+    let f = c .before .before .before in
+    sym (typed f ∙ ap (mapped _) (sym (f .from-class-type .ensures) ∙ ap typeReadOf (c .before .r .given .1)))
 
 returns-5 : tie.Need-returns-5
 returns-5 c =

@@ -55,7 +55,9 @@ same-length : tie.Need-same-length
 same-length c = simp length-set
 
 returns-2 : tie.Need-returns-2
-returns-2 c = let s = c .before .before .before in header-written (s .args .self) (c .class-and-type .result) (s .args .out .now) (c .class-and-type .ensures) (c .before .if1 .left)
+returns-2 c =
+    let s = c .before .before .before in
+    header-written (s .args .self) (c .class-and-type .result) (s .args .out .now) (c .class-and-type .ensures) (c .before .if1 .left)
 
 pub encode-spec : {M : Type 1} → statement M
 encode-spec =

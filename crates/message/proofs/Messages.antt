@@ -28,6 +28,7 @@ suaKinds = record { kindOf = fromClassType; classOf = classOf; typeOf = typeOf }
 pub sua-paired : Paired suaKinds
 sua-paired = type-of-pair
 
+-- Reading and writing SUA messages is reading and writing over these types.
 abbrev pub messageOf : Framed MessageType → Message
 messageOf m = record { type = m .kind; params = m .params }
 

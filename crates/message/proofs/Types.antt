@@ -26,12 +26,12 @@ abbrev pub allOf : {A : Type 0} → (A → Bool) → List A → Bool
 allOf f [] = true
 allOf f (x ∷ xs) = f x && allOf f xs
 
--- one of some numbers
+-- One of some numbers.
 abbrev oneOf : List ℕ → ℕ → Bool
 oneOf [] n = false
 oneOf (k ∷ ks) n = eqb n k || oneOf ks n
 
--- none of some numbers, the last first: what the last arm of a match is told
+-- None of some numbers, the last first: what the last arm of a match is told.
 abbrev pub NoneOf : List ℕ → ℕ → Type 0
 NoneOf [] n = Unit {0}
 NoneOf (k ∷ ks) n = NoneOf ks n × (n ≡ k → ⊥)
@@ -41,7 +41,7 @@ apart [] n h e = let z : _≡_ {A = ℕ} 0 1 = cc in omega arith
 apart (k ∷ ks) n h e = apart ks n (h .0) (rw (ne-eqb n k (h .1)) at e)
 
 module _ {A : Type 0} (test : A → Bool) where
-  -- what was found passes the test
+  -- What was found passes the test.
   first-passes : (xs : List A) (n : ℕ) (vs : List ℕ) (x : A) → first test xs (refused n vs) ≡ accepted x → test x ≡ true
   first-passes [] n vs x e = absurd (never e)
   first-passes (y ∷ ys) n vs x e = on (test y) refl e (λ d. first-passes ys n vs x d)
@@ -55,7 +55,7 @@ module _ {A : Type 0} (test : A → Bool) where
       on true h e ih = ap test (sym (accepted-inj e)) ∙ h
       on false h e ih = ih e
 
-  -- what was found is one of the list
+  -- What was found is one of the list.
   first-among :
       (f : A → Bool) (xs : List A) (n : ℕ) (vs : List ℕ) (x : A)
       → first test xs (refused n vs) ≡ accepted x
@@ -75,7 +75,7 @@ module _ {A : Type 0} (test : A → Bool) where
       on true e here ih = ap f (sym (accepted-inj e)) ∙ here
       on false e here ih = ih e
 
-  -- nothing is found where a property of all rules the test out
+  -- Nothing is found where a property of all rules the test out.
   first-none :
       (f : A → Bool) (xs : List A) (other : Outcome A)
       → ((x : A) → f x ≡ true → test x ≡ true → ⊥)
@@ -86,13 +86,14 @@ module _ {A : Type 0} (test : A → Bool) where
       let (here, others) = both (f x) (allOf f xs) e in
       rw (off (test x) (out x here)) (first-none f xs other out others)
 
--- The pair of a type that was found.
+-- A type that was found has that pair ..
 pub type-of-pair : (c t : ℕ) (m : MessageType) → fromClassType c t ≡ accepted m → (c ≡ classOf m) × (t ≡ typeOf m)
 unfolding fromClassType
 type-of-pair c t m e =
     let (hc, ht) = both (eqb c (classOf m)) _ (first-passes (λ m. eqb c (classOf m) && eqb t (typeOf m)) messageTypes _ _ m e) in
     (eqb-true c (classOf m) hc, eqb-true t (typeOf m) ht)
 
+-- .. and each type is found by its pair.
 pub pair-of-type : (m : MessageType) → fromClassType (classOf m) (typeOf m) ≡ accepted m
 unfolding fromClassType
 pair-of-type T.Error = refl

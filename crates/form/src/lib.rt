@@ -1,0 +1,1 @@
+// The settled form of a message (document 01, module 6).

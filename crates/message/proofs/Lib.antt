@@ -1,0 +1,4 @@
+pub mod Types
+pub mod Headers
+pub mod Framing
+pub mod Messages

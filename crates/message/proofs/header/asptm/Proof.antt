@@ -1,0 +1,43 @@
+-- `message::header::asptm` meets its contract: each arm's type has that pair, and no other type of the class has.
+use mathlib.Core.Path.{refl, sym, _∙_}
+use mathlib.Core.Logic.{⊎-elim}
+use mathlib.Core.List.{[], _∷_}
+use borrow.Author.Needs.{needs}
+use Rattle.message.specs.Types.{fromClassType}
+use Rattle.message.specs.declared.header.MessageType.the-variants as T
+use Rattle.message.proofs.Types.{reads-as, other-type}
+use Rattle.message.proofs.header.asptm.Statement.{statement}
+use Rattle.message.proofs.header.asptm.Tie as tie
+
+unknown-requires : tie.Need-unknown-requires
+unknown-requires c κs = search needs
+
+returns : tie.Need-returns
+returns c = reads-as T.AspActive 4 _ refl (c .match .keys1)
+
+returns-2 : tie.Need-returns-2
+returns-2 c = reads-as T.AspInactive 4 _ refl (c .match .keys2)
+
+returns-3 : tie.Need-returns-3
+returns-3 c = reads-as T.AspActiveAck 4 _ refl (c .match .keys3)
+
+returns-4 : tie.Need-returns-4
+returns-4 c = reads-as T.AspInactiveAck 4 _ refl (c .match .keys4)
+
+returns-5 : tie.Need-returns-5
+unfolding fromClassType
+returns-5 c =
+    let t = c .before .before .args .msg-type in
+    c .unknown .ensures
+    ∙ ⊎-elim (λ w. rw (w .keys5)) (λ w. sym (other-type 4 t (4 ∷ 3 ∷ 2 ∷ 1 ∷ []) (w .rest .0) refl)) (c .before .match .came)
+
+pub asptm-spec : {M : Type 1} → statement M
+asptm-spec =
+    tie.close
+    (tie.spec
+    unknown-requires
+    returns
+    returns-2
+    returns-3
+    returns-4
+    returns-5)

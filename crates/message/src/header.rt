@@ -1,0 +1,373 @@
+// Message classes, message types and the common header (header.rs).
+use bcd::error::Counted;
+use bcd::error::Refusal;
+ghost use mathlib.Core.Path.{_≡_};
+ghost use Prim.Native.Nat.{_+_, _≤_, _<_};
+ghost use mathlib.Core.List.{[], _∷_};
+ghost use lib.ListN.{length, drop};
+ghost use Rattle.bcd.specs.Outcome.{accepted, refused, deliver};
+ghost use Rattle.bcd.specs.Answers.{countedOf};
+ghost use Rattle.address.specs.Address.{fourIn};
+ghost use Rattle.message.specs.Types.{fromOctet, fromClassType, classAndType, classOf, classReadOf, typeReadOf};
+ghost use Rattle.message.specs.Message.{headerWith, readHeader, writeHeader, headerReadOf};
+
+// The version of SUA (RFC 3868, 3.1.1).
+pub const VERSION: u8 = 1;
+
+// The classes of messages (RFC 3868, 3.1.2).
+pub enum MessageClass {
+    Management = 0,
+    Snm = 2,
+    Aspsm = 3,
+    Asptm = 4,
+    ConnectionLess = 7,
+    ConnectionOriented = 8,
+    Rkm = 9,
+}
+
+// The class of an octet, or refusal 3.
+pub enum ClassRead {
+    Class(MessageClass),
+    Refused(Refusal),
+}
+
+// The types of messages, class by class (RFC 3868, 3.1.3).
+pub enum MessageType {
+    Error,
+    Notify,
+    Duna,
+    Dava,
+    Daud,
+    Scon,
+    Dupu,
+    Drst,
+    AspUp,
+    AspDown,
+    Heartbeat,
+    AspUpAck,
+    AspDownAck,
+    HeartbeatAck,
+    AspActive,
+    AspInactive,
+    AspActiveAck,
+    AspInactiveAck,
+    Cldt,
+    Cldr,
+    Core,
+    Coak,
+    Coref,
+    Relre,
+    Relco,
+    Resco,
+    Resre,
+    Codt,
+    Coda,
+    Coerr,
+    Coit,
+    RegReq,
+    RegRsp,
+    DeregReq,
+    DeregRsp,
+}
+
+// The type of a pair of octets, or refusal 4.
+pub enum TypeRead {
+    Type(MessageType),
+    Refused(Refusal),
+}
+
+// A message type's octets in the header: its class and its type.
+pub struct ClassAndType(pub u8, pub u8);
+
+// The common header (RFC 3868, 3.1).
+pub struct CommonHeader {
+    pub version: u8,
+    pub message_type: MessageType,
+    pub message_length: u32,
+}
+
+// A header that was read, or a refusal.
+pub enum HeaderRead {
+    Header(CommonHeader),
+    Refused(Refusal),
+}
+
+impl MessageClass {
+    // The class of an octet. 3.
+    pub fn from_u8(value: u8) -> ClassRead
+        ensures { λ r. ⌜ classReadOf r ≡ fromOctet value ⌝ }
+    {
+        match value {
+            0 => ClassRead::Class(Self::Management),
+            2 => ClassRead::Class(Self::Snm),
+            3 => ClassRead::Class(Self::Aspsm),
+            4 => ClassRead::Class(Self::Asptm),
+            7 => ClassRead::Class(Self::ConnectionLess),
+            8 => ClassRead::Class(Self::ConnectionOriented),
+            9 => ClassRead::Class(Self::Rkm),
+            _ => ClassRead::Refused(Refusal::InvalidMessageClass(value)),
+        }
+    }
+}
+
+// Refusal 4.
+fn unknown(class: u8, msg_type: u8) -> TypeRead
+    ensures { λ r. ⌜ typeReadOf r ≡ refused 4 (class ∷ «msg_type» ∷ []) ⌝ }
+{
+    TypeRead::Refused(Refusal::InvalidMessageType { class, msg_type })
+}
+
+// The types of class 0, management.
+fn management(msg_type: u8) -> TypeRead
+    ensures { λ r. ⌜ typeReadOf r ≡ fromClassType 0 «msg_type» ⌝ }
+{
+    match msg_type {
+        0 => TypeRead::Type(MessageType::Error),
+        1 => TypeRead::Type(MessageType::Notify),
+        2..=255 => unknown(0, msg_type),
+    }
+}
+
+// The types of class 2, signalling network management.
+fn snm(msg_type: u8) -> TypeRead
+    ensures { λ r. ⌜ typeReadOf r ≡ fromClassType 2 «msg_type» ⌝ }
+{
+    match msg_type {
+        1 => TypeRead::Type(MessageType::Duna),
+        2 => TypeRead::Type(MessageType::Dava),
+        3 => TypeRead::Type(MessageType::Daud),
+        4 => TypeRead::Type(MessageType::Scon),
+        5 => TypeRead::Type(MessageType::Dupu),
+        6 => TypeRead::Type(MessageType::Drst),
+        0 | 7..=255 => unknown(2, msg_type),
+    }
+}
+
+// The types of class 3, ASP state maintenance.
+fn aspsm(msg_type: u8) -> TypeRead
+    ensures { λ r. ⌜ typeReadOf r ≡ fromClassType 3 «msg_type» ⌝ }
+{
+    match msg_type {
+        1 => TypeRead::Type(MessageType::AspUp),
+        2 => TypeRead::Type(MessageType::AspDown),
+        3 => TypeRead::Type(MessageType::Heartbeat),
+        4 => TypeRead::Type(MessageType::AspUpAck),
+        5 => TypeRead::Type(MessageType::AspDownAck),
+        6 => TypeRead::Type(MessageType::HeartbeatAck),
+        0 | 7..=255 => unknown(3, msg_type),
+    }
+}
+
+// The types of class 4, ASP traffic maintenance.
+fn asptm(msg_type: u8) -> TypeRead
+    ensures { λ r. ⌜ typeReadOf r ≡ fromClassType 4 «msg_type» ⌝ }
+{
+    match msg_type {
+        1 => TypeRead::Type(MessageType::AspActive),
+        2 => TypeRead::Type(MessageType::AspInactive),
+        3 => TypeRead::Type(MessageType::AspActiveAck),
+        4 => TypeRead::Type(MessageType::AspInactiveAck),
+        0 | 5..=255 => unknown(4, msg_type),
+    }
+}
+
+// The types of class 7, connectionless messages.
+fn connection_less(msg_type: u8) -> TypeRead
+    ensures { λ r. ⌜ typeReadOf r ≡ fromClassType 7 «msg_type» ⌝ }
+{
+    match msg_type {
+        1 => TypeRead::Type(MessageType::Cldt),
+        2 => TypeRead::Type(MessageType::Cldr),
+        0 | 3..=255 => unknown(7, msg_type),
+    }
+}
+
+// The types of class 8, connection-oriented messages.
+fn connection_oriented(msg_type: u8) -> TypeRead
+    ensures { λ r. ⌜ typeReadOf r ≡ fromClassType 8 «msg_type» ⌝ }
+{
+    match msg_type {
+        1 => TypeRead::Type(MessageType::Core),
+        2 => TypeRead::Type(MessageType::Coak),
+        3 => TypeRead::Type(MessageType::Coref),
+        4 => TypeRead::Type(MessageType::Relre),
+        5 => TypeRead::Type(MessageType::Relco),
+        6 => TypeRead::Type(MessageType::Resco),
+        7 => TypeRead::Type(MessageType::Resre),
+        8 => TypeRead::Type(MessageType::Codt),
+        9 => TypeRead::Type(MessageType::Coda),
+        10 => TypeRead::Type(MessageType::Coerr),
+        11 => TypeRead::Type(MessageType::Coit),
+        0 | 12..=255 => unknown(8, msg_type),
+    }
+}
+
+// The types of class 9, routing key management.
+fn rkm(msg_type: u8) -> TypeRead
+    ensures { λ r. ⌜ typeReadOf r ≡ fromClassType 9 «msg_type» ⌝ }
+{
+    match msg_type {
+        1 => TypeRead::Type(MessageType::RegReq),
+        2 => TypeRead::Type(MessageType::RegRsp),
+        3 => TypeRead::Type(MessageType::DeregReq),
+        4 => TypeRead::Type(MessageType::DeregRsp),
+        0 | 5..=255 => unknown(9, msg_type),
+    }
+}
+
+impl MessageType {
+    // The type of a class and a type. 4.
+    pub fn from_class_type(class: u8, msg_type: u8) -> TypeRead
+        ensures { λ r. ⌜ typeReadOf r ≡ fromClassType class «msg_type» ⌝ }
+    {
+        match class {
+            0 => management(msg_type),
+            2 => snm(msg_type),
+            3 => aspsm(msg_type),
+            4 => asptm(msg_type),
+            7 => connection_less(msg_type),
+            8 => connection_oriented(msg_type),
+            9 => rkm(msg_type),
+            _ => unknown(class, msg_type),
+        }
+    }
+
+    // The octets of the type.
+    pub fn class_and_type(self) -> ClassAndType
+        ensures { λ r. ⌜ r ≡ classAndType self ⌝ }
+    {
+        match self {
+            Self::Error => ClassAndType(0, 0),
+            Self::Notify => ClassAndType(0, 1),
+            Self::Duna => ClassAndType(2, 1),
+            Self::Dava => ClassAndType(2, 2),
+            Self::Daud => ClassAndType(2, 3),
+            Self::Scon => ClassAndType(2, 4),
+            Self::Dupu => ClassAndType(2, 5),
+            Self::Drst => ClassAndType(2, 6),
+            Self::AspUp => ClassAndType(3, 1),
+            Self::AspDown => ClassAndType(3, 2),
+            Self::Heartbeat => ClassAndType(3, 3),
+            Self::AspUpAck => ClassAndType(3, 4),
+            Self::AspDownAck => ClassAndType(3, 5),
+            Self::HeartbeatAck => ClassAndType(3, 6),
+            Self::AspActive => ClassAndType(4, 1),
+            Self::AspInactive => ClassAndType(4, 2),
+            Self::AspActiveAck => ClassAndType(4, 3),
+            Self::AspInactiveAck => ClassAndType(4, 4),
+            Self::Cldt => ClassAndType(7, 1),
+            Self::Cldr => ClassAndType(7, 2),
+            Self::Core => ClassAndType(8, 1),
+            Self::Coak => ClassAndType(8, 2),
+            Self::Coref => ClassAndType(8, 3),
+            Self::Relre => ClassAndType(8, 4),
+            Self::Relco => ClassAndType(8, 5),
+            Self::Resco => ClassAndType(8, 6),
+            Self::Resre => ClassAndType(8, 7),
+            Self::Codt => ClassAndType(8, 8),
+            Self::Coda => ClassAndType(8, 9),
+            Self::Coerr => ClassAndType(8, 10),
+            Self::Coit => ClassAndType(8, 11),
+            Self::RegReq => ClassAndType(9, 1),
+            Self::RegRsp => ClassAndType(9, 2),
+            Self::DeregReq => ClassAndType(9, 3),
+            Self::DeregRsp => ClassAndType(9, 4),
+        }
+    }
+
+    // The class of the type.
+    pub fn message_class(self) -> MessageClass
+        ensures { λ r. ⌜ accepted r ≡ fromOctet (classOf self) ⌝ }
+    {
+        let pair = self.class_and_type();
+        match MessageClass::from_u8(pair.0) {
+            ClassRead::Class(class) => class,
+            ClassRead::Refused(_) => MessageClass::Management,
+        }
+    }
+}
+
+// An octet as a 32-bit number.
+fn wide(octet: u8) -> u32
+    ensures { λ r. ⌜ (r ≡ octet) × (r < 256) ⌝ }
+{
+    octet as u32
+}
+
+// The 32-bit number at a position, the highest octet first.
+fn four_at(bytes: &[u8], at: usize) -> u32
+    requires { ⌜ at + 4 ≤ length (now bytes) ⌝ }
+    ensures { λ r. ⌜ r ≡ fourIn (drop at (now (bytes .entry))) ⌝ }
+{
+    let a = wide(bytes[at]);
+    let b = wide(bytes[at + 1]);
+    let c = wide(bytes[at + 2]);
+    let d = wide(bytes[at + 3]);
+    a * 16777216 + b * 65536 + c * 256 + d
+}
+
+impl CommonHeader {
+    // The octets of a header.
+    pub const SIZE: usize = 8;
+
+    // The header of a message of this many octets.
+    pub fn new(message_type: MessageType, message_length: u32) -> Self
+        ensures { λ r. ⌜ r ≡ headerWith «message_type» «message_length» ⌝ }
+    {
+        Self {
+            version: VERSION,
+            message_type,
+            message_length,
+        }
+    }
+
+    // Reads the header in front of a message. 12, 1, 2, 4.
+    pub fn decode(bytes: &[u8]) -> HeaderRead
+        ensures { λ r. ⌜ headerReadOf r ≡ readHeader (now (bytes .entry)) ⌝ }
+    {
+        let given = bytes.len();
+        if 1048576 < given {
+            return HeaderRead::Refused(Refusal::TooManyOctets(given));
+        }
+        if given < Self::SIZE {
+            return HeaderRead::Refused(Refusal::TooShort {
+                expected: Self::SIZE,
+                actual: given,
+            });
+        }
+        let version = bytes[0];
+        if version != VERSION {
+            return HeaderRead::Refused(Refusal::InvalidVersion(version));
+        }
+        match MessageType::from_class_type(bytes[2], bytes[3]) {
+            TypeRead::Refused(r) => HeaderRead::Refused(r),
+            TypeRead::Type(message_type) => HeaderRead::Header(Self::new(
+                message_type,
+                four_at(bytes, 4),
+            )),
+        }
+    }
+
+    // Writes a header with the version and the length that it holds. 14.
+    pub fn encode(self, out: &mut [u8]) -> Counted
+        ensures { λ r. ⌜ record { answer = countedOf r; buffer = now (out .exit) } ≡ deliver (writeHeader self) (now (out .entry)) ⌝ }
+    {
+        if out.len() < Self::SIZE {
+            return Counted::Refused(Refusal::OutputTooSmall(Self::SIZE));
+        }
+        let message_type = self.message_type;
+        let pair = message_type.class_and_type();
+        let len = self.message_length;
+        let high = len / 65536;
+        let low = len % 65536;
+        out[0] = self.version;
+        out[1] = 0;
+        out[2] = pair.0;
+        out[3] = pair.1;
+        out[4] = (high / 256) as u8;
+        out[5] = (high % 256) as u8;
+        out[6] = (low / 256) as u8;
+        out[7] = (low % 256) as u8;
+        Counted::Count(Self::SIZE)
+    }
+}

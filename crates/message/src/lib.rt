@@ -1,0 +1,2 @@
+// Message types and the common header (header.rs).
+pub mod header;

@@ -7,9 +7,8 @@ use native.Mathlib.Omega.{arith}
 use lib.ListN.{length, drop}
 use Rattle.bcd.specs.Outcome.{accepted, after, mapped, each, All, Octets, most}
 use Rattle.bcd.proofs.Outcomes.{accepted-inj, after-inv, mapped-inv, each-cons, each-inv, each-append, each-split, all-append, octets-at}
-use Rattle.parameter.specs.Parameter.{Param, roundUp, runLength, Fits}
+use Rattle.parameter.specs.Parameter.{Param, roundUp, runLength, Fits, fourIn}
 use Rattle.parameter.proofs.RoundTrip.{run-length-append}
-use Rattle.address.specs.Address.{fourIn}
 use Rattle.message.proofs.Framing.{Framed, readOf, octetsOf, octets-length, octets-declared, octets-octets, octets-read, read-inv, read-fits, read-room}
 use Rattle.form.proofs.Family.{Family, Meant, norm, settledOf, meaningOf, LawfulFamily}
 

@@ -9,9 +9,9 @@ use lib.ListN.{length, drop}
 use Rattle.bcd.specs.Outcome.{accepted, refused, after, mapped, each, All, Octets, most}
 use Rattle.bcd.specs.Digits.{Alphabet, Lawful}
 use Rattle.bcd.proofs.Outcomes.{never, after-inv, mapped-inv}
-use Rattle.parameter.specs.Parameter.{Param, roundUp, runLength}
+use Rattle.parameter.specs.Parameter.{Param, roundUp, runLength, fourIn}
 use Rattle.parameter.proofs.RoundTrip.{all-sized}
-use Rattle.address.specs.Address.{Address, fourIn, addressIn, writeAddress, rewriteAddress}
+use Rattle.address.specs.Address.{Address, addressIn, writeAddress, rewriteAddress}
 use Rattle.message.specs.declared.header.MessageType.{MessageType}
 use Rattle.message.specs.Message.{Message, readMessage, messageOctets, writeMessage}
 use Rattle.message.proofs.Messages.{messageOf, message-framed, octets-framed, message-written}

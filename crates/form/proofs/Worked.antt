@@ -7,9 +7,9 @@ use mathlib.Core.List.{List, [], _∷_, _++_}
 use lib.ListN.{take}
 use Rattle.bcd.specs.Outcome.{Outcome, accepted, refused, All}
 use Rattle.bcd.specs.Digits.{builtIn, halves, pack, digitsIn, readDigits, writeDigits}
-use Rattle.parameter.specs.Parameter.{paramOctets, runOctets, encodeParam}
-use Rattle.parameter.specs.Walk.{twoAt, headed, stepAt, steps, places, parameters}
-use Rattle.address.specs.Address.{four, Address, titleIn, writeTitle, pieceIn, addressWith, addressIn, readAddress, indicator, pieces, subParam, writeAddress, rewriteAddress}
+use Rattle.parameter.specs.Parameter.{paramOctets, runOctets, encodeParam, twoAt, four}
+use Rattle.parameter.specs.Walk.{headed, stepAt, steps, places, parameters}
+use Rattle.address.specs.Address.{Address, titleIn, writeTitle, pieceIn, addressWith, addressIn, readAddress, indicator, pieces, subParam, writeAddress, rewriteAddress}
 use Rattle.message.specs.declared.header.MessageType.the-variants as T
 use Rattle.message.specs.Types.{fromClassType}
 use Rattle.message.specs.Message.{Message, readHeader, readMessage, messageOctets}

@@ -1,5 +1,5 @@
 -- Messages with SUA's header over any message types (RFC 3868, 3.1; RFC 4666, 3): reading, writing, and their laws.
-use Prim.Native.Nat.{ℕ, _+_, _-_, _≤_, _<_}
+use Prim.Native.Nat.{ℕ, _+_, _≤_, _<_}
 use mathlib.Core.Path.{_≡_, _∙_, subst}
 use mathlib.Core.List.{List, [], _∷_, _++_}
 use native.Mathlib.Omega.{arith}
@@ -8,11 +8,10 @@ use lib.ListN.{length, getD, drop, length-drop}
 use borrow.Author.Tests.{le-leb, eq-eqb, leb-true, eqb-true}
 use Rattle.bcd.specs.Outcome.{Outcome, accepted, after, demand, mapped, bounded, All, Octets, most}
 use Rattle.bcd.proofs.Outcomes.{after-inv, mapped-inv, demand-inv, bounded-within, all-drop}
-use Rattle.parameter.specs.Parameter.{Param, roundUp, runOctets, runLength, Fits}
-use Rattle.parameter.specs.Walk.{twoAt, parameters}
+use Rattle.parameter.specs.Parameter.{Param, roundUp, runOctets, runLength, Fits, twoAt, four, fourIn}
+use Rattle.parameter.specs.Walk.{parameters}
 use Rattle.parameter.proofs.RoundTrip.{run-length, run-octets, round-trip}
 use Rattle.parameter.proofs.Reading.{parameters-fit, parameters-room}
-use Rattle.address.specs.Address.{four, fourIn}
 
 -- The message types there are: the type of a class and a type, and its pair.
 pub record Kinds (K : Type 0) : Type 0 where

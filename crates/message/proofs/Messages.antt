@@ -9,11 +9,10 @@ use lib.Dec.{leb, eqb}
 use lib.ListN.{length, getD, drop}
 use Rattle.bcd.specs.Outcome.{Outcome, accepted, refused, after, demand, mapped, each, All, Octets, most}
 use Rattle.bcd.proofs.Outcomes.{accepted-inj, after-inv, mapped-inv, mapped-mapped, demand-inv}
-use Rattle.parameter.specs.Parameter.{Param, runLength, encodeParam, Fits}
+use Rattle.parameter.specs.Parameter.{Param, runLength, encodeParam, Fits, fourIn}
 use Rattle.parameter.specs.Walk.{places, valued, parameters}
 use Rattle.parameter.proofs.Structure.{places-parameters}
 use Rattle.parameter.proofs.RoundTrip.{Sized, encode-accepts, encode-inv}
-use Rattle.address.specs.Address.{fourIn}
 use Rattle.message.specs.declared.header.MessageType.{MessageType}
 use Rattle.message.specs.declared.header.CommonHeader.{CommonHeader}
 use Rattle.message.specs.Types.{classOf, typeOf, fromClassType}

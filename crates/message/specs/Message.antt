@@ -6,9 +6,8 @@ use lib.Dec.{leb, eqb}
 use Rattle.bcd.specs.Outcome.{Outcome, accepted, after, demand, mapped, each, bounded}
 use Rattle.bcd.specs.Answers.{refusalOf}
 use Rattle.parameter.specs.declared.Place.{Place}
-use Rattle.parameter.specs.Parameter.{Param, runOctets, encodeParam, writable}
+use Rattle.parameter.specs.Parameter.{Param, runOctets, encodeParam, writable, four, fourIn}
 use Rattle.parameter.specs.Walk.{places, parameters}
-use Rattle.address.specs.Address.{four, fourIn}
 use Rattle.message.specs.declared.header.MessageType.{MessageType}
 use Rattle.message.specs.declared.header.CommonHeader.{CommonHeader}
 use Rattle.message.specs.declared.header.HeaderRead.{HeaderRead}

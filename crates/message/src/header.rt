@@ -7,7 +7,7 @@ ghost use mathlib.Core.List.{[], _∷_};
 ghost use lib.ListN.{length, drop};
 ghost use Rattle.bcd.specs.Outcome.{accepted, refused, deliver};
 ghost use Rattle.bcd.specs.Answers.{countedOf};
-ghost use Rattle.address.specs.Address.{fourIn};
+ghost use Rattle.parameter.specs.Parameter.{fourIn};
 ghost use Rattle.message.specs.Types.{fromOctet, fromClassType, classAndType, classOf, classReadOf, typeReadOf};
 ghost use Rattle.message.specs.Message.{headerWith, readHeader, writeHeader, headerReadOf};
 

@@ -2,7 +2,7 @@
 use mathlib.Core.Path.{_≡_, sym, ap, _∙_}
 use lib.ListN.{getD, drop}
 use Rattle.bcd.specs.Outcome.{accepted, mapped}
-use Rattle.address.specs.Address.{fourIn}
+use Rattle.parameter.specs.Parameter.{fourIn}
 use Rattle.message.specs.Types.{fromClassType, typeReadOf}
 use Rattle.message.specs.Message.{headerWith, readHeader}
 use Rattle.message.proofs.Headers.{header-beyond, header-short, header-version, header-typed}

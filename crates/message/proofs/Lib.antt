@@ -2,3 +2,4 @@ pub mod Types
 pub mod Headers
 pub mod Framing
 pub mod Messages
+pub mod Listing

@@ -308,7 +308,7 @@ pub fn decode_parameters(
 }
 
 // The sum, or the largest number that 64 bits hold.
-fn saturating_add(a: usize, b: usize) -> usize
+pub fn saturating_add(a: usize, b: usize) -> usize
     ensures { λ r. ⌜ r ≡ fit64 (a + b) ⌝ }
 {
     let left = 18446744073709551615 - a;

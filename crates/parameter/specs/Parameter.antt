@@ -2,7 +2,7 @@
 use Prim.Native.Nat.{ℕ, _+_, _-_, _*_, _/_, _%_, _≤_, _<_}
 use mathlib.Core.List.{List, [], _∷_, _++_}
 use mathlib.Core.Option.{Option, none, some}
-use lib.ListN.{length, getD, replicate}
+use lib.ListN.{length, getD, take, drop, replicate}
 use lib.Dec.{leb}
 use Rattle.bcd.specs.Outcome.{Outcome, accepted, pick, demand, after, each, Octets, most, fit64}
 
@@ -63,6 +63,13 @@ encodeParam p = demand (leb (length (p .value)) mostValue) 10 (p .tag ∷ length
 -- What a parameter with a value of n octets takes on the wire; 10 above 65,531 (document 01, 'Order').
 unfoldable pub wireLength : (tag n : ℕ) → Outcome ℕ
 wireLength tag n = demand (leb n mostValue) 10 (tag ∷ n ∷ []) (accepted (paddedLength n))
+
+-- A parameter whose value of n octets stands at the fifth octet of a buffer: 10, then 14.
+unfoldable pub frameParam : (tag n : ℕ) → (held : List ℕ) → Outcome (List ℕ)
+frameParam tag n held =
+    demand (leb n mostValue) 10 (tag ∷ n ∷ [])
+    (demand (leb (paddedLength n) (length held)) 14 (paddedLength n ∷ [])
+    (accepted (paramOctets (record { tag = tag; value = take n (drop 4 held) }))))
 
 -- A value as a number: its first four octets; none under four (document 01, 'Order').
 unfoldable pub numberIn : List ℕ → Option ℕ

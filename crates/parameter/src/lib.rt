@@ -9,7 +9,7 @@ ghost use Prim.Native.Nat.{ℕ, _+_, _*_, _≤_};
 ghost use lib.ListN.{length, replicate, take, drop};
 ghost use Rattle.bcd.specs.Outcome.{accepted, refused, pick, after, mapped, each, bounded, fit64, deliver};
 ghost use Rattle.bcd.specs.Answers.{countedOf};
-ghost use Rattle.parameter.specs.Parameter.{Param, two, roundUp, paddedLength, paramOctets, mostValue, encodeParam, encodeParams, wireLength, numberIn};
+ghost use Rattle.parameter.specs.Parameter.{Param, two, roundUp, paddedLength, paramOctets, mostValue, encodeParam, encodeParams, wireLength, frameParam, numberIn};
 ghost use Rattle.parameter.specs.Walk.{stepAt, places, valued, decodeParam};
 ghost use Rattle.parameter.specs.Table.{Table, Tabulated, tabulate, rows, records, findParam};
 ghost use Rattle.parameter.specs.Answers.{stepOf, oneOf, numberOf, foundOf};
@@ -200,6 +200,35 @@ pub fn encode(tag: u16, value: &[u8], out: &mut [u8]) -> Counted
                 return Counted::Refused(Refusal::OutputTooSmall(n));
             }
             put(tag, value, out);
+            Counted::Count(n)
+        }
+    }
+}
+
+// Stores tag, length and padding round a value that stands at the fifth octet, for which there is room.
+fn surround(tag: u16, length: usize, out: &mut [u8])
+    requires { ⌜ length ≤ mostValue ⌝ }
+    requires { ⌜ paddedLength length ≤ lib.ListN.length (now out) ⌝ }
+    ensures { λ _. ⌜ now (out .exit) ≡ paramOctets (record { tag = tag; value = take length (drop 4 (now (out .entry))) }) ++ drop (paddedLength length) (now (out .entry)) ⌝ }
+{
+    let wire = length + 4;
+    let padded = (wire + 3) / 4 * 4;
+    put_two(tag, out);
+    put_two(wire as u16, &mut out[2..]);
+    clear(&mut out[wire..padded]);
+}
+
+// Writes tag, length and padding round a value of this length that stands at the fifth octet of the output. 10, 14.
+pub fn frame(tag: u16, length: usize, out: &mut [u8]) -> Counted
+    ensures { λ r. ⌜ record { answer = countedOf r; buffer = now (out .exit) } ≡ deliver (frameParam tag length (now (out .entry))) (now (out .entry)) ⌝ }
+{
+    match wire_length(tag, length) {
+        Counted::Refused(r) => Counted::Refused(r),
+        Counted::Count(n) => {
+            if out.len() < n {
+                return Counted::Refused(Refusal::OutputTooSmall(n));
+            }
+            surround(tag, length, out);
             Counted::Count(n)
         }
     }

@@ -4,4 +4,5 @@ pub mod Refusals
 pub mod Sua
 pub mod Settled
 pub mod Demand3
+pub mod Passes
 pub mod Worked

@@ -4,3 +4,6 @@ pub mod SubParams
 pub mod Rewriting
 pub mod Writable
 pub mod Records
+pub mod Surveying
+pub mod Keeping
+pub mod Interpreting

@@ -20,7 +20,7 @@ use Rattle.parameter.proofs.Walking.{places-inside}
 use Rattle.parameter.proofs.Structure.{places-parameters}
 use Rattle.address.specs.Address.{titleIn, fourOctets, Piece, title, code, sub, other, pieceIn, asTitle, asCode, asSub, later, last, othersIn, addressWith, addressIn, readAddress, pieces}
 use Rattle.address.specs.Records.{flagged}
-use Rattle.address.specs.Parts.{keptPlace, sooner, nothing, notedTitle, notedCode, notedSsn, notedOther, noted, noteAll, shortRefusal, judged, titleAt, keptTitle, keptCode, keptSub, isOther, otherPlaces, keptPieces}
+use Rattle.address.specs.Parts.{keptPlace, sooner, nothing, notedTitle, notedCode, notedSsn, notedOther, noted, noteAll, shortBy, shortRefusal, judged, titleAt, keptTitle, keptCode, keptSub, isOther, otherPlaces, keptPieces}
 use Rattle.address.specs.declared.parts.Kept.{Kept}
 use Rattle.address.specs.declared.parts.Parts.{Parts}
 
@@ -62,39 +62,18 @@ note-short s p =
     none k true e = rw e
     none k false e = rw (e, le-ltb (p .length) 0 (omega arith))
 
--- a refusal that is passed on
-short-after : {X Y : Type 0} (p : Place) (f : X → Outcome Y) → after (shortRefusal p) f ≡ shortRefusal p
-short-after p f = go (eqb (p .tag) 0x8001)
-  where
-    go :
-        (a : Bool)
-        → after (pick a (refused 1 (8 ∷ p .length ∷ [])) (refused 6 (p .tag ∷ 4 ∷ p .length ∷ []))) f
-        ≡ pick a (refused 1 (8 ∷ p .length ∷ [])) (refused 6 (p .tag ∷ 4 ∷ p .length ∷ []))
-    go true = refl
-    go false = refl
-
-short-mapped : {X Y : Type 0} (f : X → Y) (p : Place) → mapped f (shortRefusal p) ≡ shortRefusal p
-short-mapped f p = go (eqb (p .tag) 0x8001)
-  where
-    go :
-        (a : Bool)
-        → mapped f (pick a (refused 1 (8 ∷ p .length ∷ [])) (refused 6 (p .tag ∷ 4 ∷ p .length ∷ [])))
-        ≡ pick a (refused 1 (8 ∷ p .length ∷ [])) (refused 6 (p .tag ∷ 4 ∷ p .length ∷ []))
-    go true = refl
-    go false = refl
-
 pub judged-mapped : {X Y : Type 0} (f : X → Y) (k : Kept) (o : Outcome X) → mapped f (judged k o) ≡ judged k (mapped f o)
 judged-mapped f k o = go (k .there) refl
   where
     go : (t : Bool) → k .there ≡ t → mapped f (judged k o) ≡ judged k (mapped f o)
-    go true e = rw e (short-mapped f (k .place))
+    go true e = rw e
     go false e = rw e
 
 pub judged-after : {X Y : Type 0} (f : X → Outcome Y) (k : Kept) (o : Outcome X) → after (judged k o) f ≡ judged k (after o f)
 judged-after f k o = go (k .there) refl
   where
     go : (t : Bool) → k .there ≡ t → after (judged k o) f ≡ judged k (after o f)
-    go true e = rw e (short-after (k .place) f)
+    go true e = rw e
     go false e = rw e
 
 module _ (v : List ℕ) where
@@ -137,7 +116,7 @@ module _ (A : Alphabet) (v : List ℕ) where
         (pick b (fourOctets (valued v p) (code (fourIn (valued v p .value))))
         (pick c (fourOctets (valued v p) (sub (getD (valued v p .value) 3 0)))
         (accepted (other (valued v p) ∷ []))))
-        ≡ pick a (refused 1 (8 ∷ p .length ∷ [])) (refused 6 (p .tag ∷ 4 ∷ p .length ∷ []))) (p .tag)
+        ≡ refused (shortBy a p .0) (shortBy a p .1)) (p .tag)
         (λ h. rw (lt-leb 8 (length (valued v p .value)) (rw (value-length v p inside) h), value-length v p inside))
         (λ h. rw (lt-leb 4 (length (valued v p .value)) (rw (value-length v p inside) h), value-length v p inside))
         (λ h. rw (lt-leb 4 (length (valued v p .value)) (rw (value-length v p inside) h), value-length v p inside))
@@ -156,11 +135,9 @@ module _ (A : Alphabet) (v : List ℕ) where
             ≡ mapped (λ zs. pieceAt p ∷ zs) (judged (sooner (s .short) p (least p)) rest)
 
         on : (t : Bool) → s .short .there ≡ t → (least p ≤ p .length) ⊎ (p .length < least p) → Goal
-        on true e l = rw e (sym (short-mapped (λ zs. pieceAt p ∷ zs) (s .short .place)))
+        on true e l = rw e
         on false e (inl l) = rw (e, piece-long l, le-ltb (p .length) (least p) l)
-        on false e (inr l) =
-            rw (e, piece-short l, lt-ltb (p .length) (least p) l)
-            (short-after p (λ ys. mapped (λ zs. ys ++ zs) rest) ∙ sym (short-mapped (λ zs. pieceAt p ∷ zs) p))
+        on false e (inr l) = rw (e, piece-short l, lt-ltb (p .length) (least p) l)
 
   -- All of them: the first that is too short refuses.
   pub pieces-judged :

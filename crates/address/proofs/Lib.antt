@@ -7,3 +7,5 @@ pub mod Records
 pub mod Surveying
 pub mod Keeping
 pub mod Interpreting
+pub mod Planning
+pub mod Plans

@@ -1,3 +1,4 @@
 pub mod Address
 pub mod Records
 pub mod Parts
+pub mod Plan

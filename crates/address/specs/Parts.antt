@@ -66,8 +66,15 @@ surveyedOf (S.Parts s) = accepted s
 surveyedOf (S.Refused r) = refusalOf r
 
 -- The refusal of a sub-parameter that is too short for its tag.
+abbrev pub shortBy : (isTitle : Bool) → Place → ℕ × List ℕ
+shortBy true p = (1, 8 ∷ p .length ∷ [])
+shortBy false p = (6, p .tag ∷ 4 ∷ p .length ∷ [])
+
+abbrev pub shortNumbers : Place → ℕ × List ℕ
+shortNumbers p = shortBy (eqb (p .tag) 0x8001) p
+
 abbrev pub shortRefusal : {X : Type 0} → Place → Outcome X
-shortRefusal p = pick (eqb (p .tag) 0x8001) (refused 1 (8 ∷ p .length ∷ [])) (refused 6 (p .tag ∷ 4 ∷ p .length ∷ []))
+shortRefusal p = refused (shortNumbers p .0) (shortNumbers p .1)
 
 abbrev pub judged : {X : Type 0} → Kept → Outcome X → Outcome X
 judged k o = pick (k .there) (shortRefusal (k .place)) o

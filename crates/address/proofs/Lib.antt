@@ -4,3 +4,8 @@ pub mod SubParams
 pub mod Rewriting
 pub mod Writable
 pub mod Records
+pub mod Surveying
+pub mod Keeping
+pub mod Interpreting
+pub mod Planning
+pub mod Plans

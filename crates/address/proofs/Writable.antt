@@ -108,7 +108,7 @@ module _ (A : Alphabet) (L : Lawful A) (tag : ℕ) (v : List ℕ) (a : Address) 
   length-fits h = omega (arith, readable A v a o e .room)
 
   -- Where the title is written, only the length of the whole counts: an other that was read is never too long.
-  subs-write : (qs : List Param) → each (subParam A) (pieces a) ≡ accepted qs → writeAddress A tag a ≡ sized tag (addressOctets a qs)
+  pub subs-write : (qs : List Param) → each (subParam A) (pieces a) ≡ accepted qs → writeAddress A tag a ≡ sized tag (addressOctets a qs)
   unfolding writeAddress
   subs-write qs h =
       let w = pieces-written A L (pieces a) qs (readable A v a o e .came) h in

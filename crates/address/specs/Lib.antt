@@ -1,2 +1,4 @@
 pub mod Address
 pub mod Records
+pub mod Parts
+pub mod Plan

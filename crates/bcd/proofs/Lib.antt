@@ -7,3 +7,4 @@ pub mod Halves
 pub mod Writable
 pub mod Reading
 pub mod Digits
+pub mod Rewriting

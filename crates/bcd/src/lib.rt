@@ -1,5 +1,6 @@
 // The digits of a global title: two to an octet, the first in the low half (bcd.rs; RFC 3868, 3.10.2.3).
 pub mod error;
+pub mod rewrite;
 
 use error::Counted;
 use error::Refusal;

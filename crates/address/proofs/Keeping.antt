@@ -1,0 +1,187 @@
+-- What the walk keeps is what reading gives: the first sub-parameter that is too short is the refusal, the last of each
+-- kind holds, and the others stay in order.
+use Prim.Native.Nat.{ℕ, _+_, _-_, _≤_, _<_}
+use mathlib.Core.Path.{_≡_, refl, sym, ap, ap₂, _∙_}
+use mathlib.Core.Bool.{Bool, true, false}
+use mathlib.Core.Logic.{_⊎_, inl, inr, ⊎-elim}
+use mathlib.Core.Option.{Option, none, some}
+use mathlib.Core.List.{List, [], _∷_, _++_, map}
+use native.Mathlib.Omega.{arith}
+use borrow.Author.Tests.{le-leb, lt-leb, lt-ltb, le-ltb, eq-eqb, ne-eqb, eqb-true, eqb-false}
+use lib.Dec.{leb, ltb, eqb}
+use lib.ListN.{length, getD, take, drop, length-take, length-drop}
+use Rattle.bcd.specs.Outcome.{Outcome, accepted, refused, pick, after, mapped, each, All, most}
+use Rattle.bcd.specs.Digits.{Alphabet}
+use Rattle.bcd.proofs.Outcomes.{le-or-lt, bounded-within, mapped-mapped}
+use Rattle.parameter.specs.Parameter.{Param, paddedLength, runLength, twoAt, fourIn}
+use Rattle.parameter.specs.Walk.{valued, places, parameters}
+use Rattle.parameter.specs.declared.Place.{Place}
+use Rattle.parameter.proofs.Walking.{places-inside}
+use Rattle.parameter.proofs.Structure.{places-parameters}
+use Rattle.address.specs.Address.{titleIn, fourOctets, Piece, title, code, sub, other, pieceIn, asTitle, asCode, asSub, later, last, othersIn, addressWith, addressIn, readAddress, pieces}
+use Rattle.address.specs.Records.{flagged}
+use Rattle.address.specs.Parts.{keptPlace, sooner, nothing, notedTitle, notedCode, notedSsn, notedOther, noted, noteAll, shortBy, shortRefusal, judged, titleAt, keptTitle, keptCode, keptSub, isOther, otherPlaces, keptPieces}
+use Rattle.address.specs.declared.parts.Kept.{Kept}
+use Rattle.address.specs.declared.parts.Parts.{Parts}
+
+-- a fact of the three tests of a tag, by the four kinds
+pub kinds :
+    (P : Bool → Bool → Bool → Type 0) (t : ℕ)
+    → P true false false
+    → P false true false
+    → P false false true
+    → P false false false
+    → P (eqb t 0x8001) (eqb t 0x8002) (eqb t 0x8003)
+kinds P t a b c d = first (eqb t 0x8001) refl
+  where
+    third : (r : Bool) → eqb t 0x8003 ≡ r → P false false r
+    third true e = c
+    third false e = d
+
+    second : (q : Bool) → eqb t 0x8002 ≡ q → P false q (eqb t 0x8003)
+    second true e = let f = eqb-true t 0x8002 e in rw (ne-eqb t 0x8003 (λ g. omega arith)) b
+    second false e = third (eqb t 0x8003) refl
+
+    first : (p : Bool) → eqb t 0x8001 ≡ p → P p (eqb t 0x8002) (eqb t 0x8003)
+    first true e =
+        let f = eqb-true t 0x8001 e in
+        rw (ne-eqb t 0x8002 (λ g. omega arith), ne-eqb t 0x8003 (λ g. omega arith)) a
+    first false e = second (eqb t 0x8002) refl
+
+-- the least octets that a value has by its tag
+abbrev least : Place → ℕ
+least p = pick (eqb (p .tag) 0x8001) 8 (pick (eqb (p .tag) 0x8002) 4 (pick (eqb (p .tag) 0x8003) 4 0))
+
+pub note-short : (s : Parts) (p : Place) → noted s p .short ≡ sooner (s .short) p (least p)
+unfolding noted
+note-short s p =
+    kinds (λ a b c. pick a (notedTitle s p) (pick b (notedCode s p) (pick c (notedSsn s p) (notedOther s p))) .short
+    ≡ sooner (s .short) p (pick a 8 (pick b 4 (pick c 4 0)))) (p .tag) refl refl refl (none (s .short) (s .short .there) refl)
+  where
+    none : (k : Kept) (t : Bool) → k .there ≡ t → k ≡ sooner k p 0
+    none k true e = rw e
+    none k false e = rw (e, le-ltb (p .length) 0 (omega arith))
+
+pub judged-mapped : {X Y : Type 0} (f : X → Y) (k : Kept) (o : Outcome X) → mapped f (judged k o) ≡ judged k (mapped f o)
+judged-mapped f k o = go (k .there) refl
+  where
+    go : (t : Bool) → k .there ≡ t → mapped f (judged k o) ≡ judged k (mapped f o)
+    go true e = rw e
+    go false e = rw e
+
+pub judged-after : {X Y : Type 0} (f : X → Outcome Y) (k : Kept) (o : Outcome X) → after (judged k o) f ≡ judged k (after o f)
+judged-after f k o = go (k .there) refl
+  where
+    go : (t : Bool) → k .there ≡ t → after (judged k o) f ≡ judged k (after o f)
+    go true e = rw e
+    go false e = rw e
+
+module _ (v : List ℕ) where
+  abbrev pub Inside : Place → Type 0
+  Inside p = p .start + p .length ≤ length v
+
+  pub value-length : (p : Place) → Inside p → length (valued v p .value) ≡ p .length
+  value-length p h = rw (length-take (p .length) (drop (p .start) v), length-drop (p .start) v) (omega arith)
+
+module _ (A : Alphabet) (v : List ℕ) where
+  -- the piece that a sub-parameter is, if it is long enough
+  abbrev pub pieceBy : Bool → Bool → Bool → Place → Piece
+  pieceBy a b c p =
+      pick a (title (titleAt A (valued v p .value)))
+      (pick b (code (fourIn (valued v p .value)))
+      (pick c (sub (getD (valued v p .value) 3 0)) (other (valued v p))))
+
+  abbrev pub pieceAt : Place → Piece
+  pieceAt p = pieceBy (eqb (p .tag) 0x8001) (eqb (p .tag) 0x8002) (eqb (p .tag) 0x8003) p
+
+  -- A sub-parameter is that piece, or it is refused.
+  module _ (p : Place) (inside : Inside v p) where
+    piece-long : least p ≤ p .length → pieceIn A (valued v p) ≡ accepted (pieceAt p ∷ [])
+    unfolding pieceIn titleIn
+    piece-long = kinds (λ a b c. pick a 8 (pick b 4 (pick c 4 0)) ≤ p .length →
+        pick a (mapped (λ t. title t ∷ []) (titleIn A (valued v p .value)))
+        (pick b (fourOctets (valued v p) (code (fourIn (valued v p .value))))
+        (pick c (fourOctets (valued v p) (sub (getD (valued v p .value) 3 0)))
+        (accepted (other (valued v p) ∷ []))))
+        ≡ accepted (pieceBy a b c p ∷ [])) (p .tag)
+        (λ h. rw (le-leb 8 (length (valued v p .value)) (rw (value-length v p inside) h)))
+        (λ h. rw (le-leb 4 (length (valued v p .value)) (rw (value-length v p inside) h)))
+        (λ h. rw (le-leb 4 (length (valued v p .value)) (rw (value-length v p inside) h)))
+        (λ h. refl)
+
+    piece-short : p .length < least p → pieceIn A (valued v p) ≡ shortRefusal p
+    unfolding pieceIn titleIn
+    piece-short = kinds (λ a b c. p .length < pick a 8 (pick b 4 (pick c 4 0)) →
+        pick a (mapped (λ t. title t ∷ []) (titleIn A (valued v p .value)))
+        (pick b (fourOctets (valued v p) (code (fourIn (valued v p .value))))
+        (pick c (fourOctets (valued v p) (sub (getD (valued v p .value) 3 0)))
+        (accepted (other (valued v p) ∷ []))))
+        ≡ refused (shortBy a p .0) (shortBy a p .1)) (p .tag)
+        (λ h. rw (lt-leb 8 (length (valued v p .value)) (rw (value-length v p inside) h), value-length v p inside))
+        (λ h. rw (lt-leb 4 (length (valued v p .value)) (rw (value-length v p inside) h), value-length v p inside))
+        (λ h. rw (lt-leb 4 (length (valued v p .value)) (rw (value-length v p inside) h), value-length v p inside))
+        (λ h. absurd (omega arith))
+
+    -- one sub-parameter more: it is refused, unless one before it was
+    piece-judged :
+        (s : Parts) (rest : Outcome (List Piece))
+        → judged (s .short) (after (pieceIn A (valued v p)) (λ ys. mapped (λ zs. ys ++ zs) rest))
+        ≡ mapped (λ zs. pieceAt p ∷ zs) (judged (noted s p .short) rest)
+    piece-judged s rest = rw (note-short s p) (on (s .short .there) refl (le-or-lt (least p) (p .length)))
+      where
+        Goal : Type 0
+        Goal =
+            judged (s .short) (after (pieceIn A (valued v p)) (λ ys. mapped (λ zs. ys ++ zs) rest))
+            ≡ mapped (λ zs. pieceAt p ∷ zs) (judged (sooner (s .short) p (least p)) rest)
+
+        on : (t : Bool) → s .short .there ≡ t → (least p ≤ p .length) ⊎ (p .length < least p) → Goal
+        on true e l = rw e
+        on false e (inl l) = rw (e, piece-long l, le-ltb (p .length) (least p) l)
+        on false e (inr l) = rw (e, piece-short l, lt-ltb (p .length) (least p) l)
+
+  -- All of them: the first that is too short refuses.
+  pub pieces-judged :
+      (s : Parts) (ps : List Place)
+      → All (Inside v) ps
+      → judged (s .short) (each (pieceIn A) (map (valued v) ps)) ≡ judged (noteAll s ps .short) (accepted (map pieceAt ps))
+  unfolding noteAll
+  pieces-judged s [] h = refl
+  pieces-judged s (p ∷ ps) h =
+      piece-judged p (h .0) s (each (pieceIn A) (map (valued v) ps))
+      ∙ ap (mapped (λ zs. pieceAt p ∷ zs)) (pieces-judged (noted s p) ps (h .1))
+      ∙ judged-mapped (λ zs. pieceAt p ∷ zs) (noteAll (noted s p) ps .short) (accepted (map pieceAt ps))
+
+-- The later of three.
+later-later : {X : Type 0} (a b c : Option X) → later a (later b c) ≡ later (later a b) c
+later-later none b c = refl
+later-later (some x) none c = refl
+later-later (some x) (some y) none = refl
+later-later (some x) (some y) (some z) = refl
+
+-- Of the pieces of a tag the last one is kept, for any tag.
+module _ {X : Type 0} (tag : ℕ) (pieceOf : Place → Piece) (select : Piece → Option X) (part : Place → X) (field : Parts → Kept)
+    (picks : (p : Place) → select (pieceOf p) ≡ pick (eqb (p .tag) tag) (some (part p)) none)
+    (keeps : (s : Parts) (p : Place) → field (noted s p) ≡ pick (eqb (p .tag) tag) (keptPlace p) (field s)) where
+  abbrev held : Kept → Option X
+  held k = flagged (k .there) (part (k .place))
+
+  holds-one : (s : Parts) (p : Place) → later (held (field s)) (select (pieceOf p)) ≡ held (field (noted s p))
+  holds-one s p = rw (picks p, keeps s p) (go (eqb (p .tag) tag) (field s) (field s .there) refl)
+    where
+      go : (t : Bool) (k : Kept) (u : Bool) → k .there ≡ u → later (held k) (pick t (some (part p)) none) ≡ held (pick t (keptPlace p) k)
+      go true k true e = rw e
+      go true k false e = rw e
+      go false k true e = rw e
+      go false k false e = rw e
+
+  pub last-holds : (s : Parts) (ps : List Place) → later (held (field s)) (last select (map pieceOf ps)) ≡ held (field (noteAll s ps))
+  unfolding noteAll
+  last-holds s [] = go (held (field s))
+    where
+      go : (o : Option X) → later o none ≡ o
+      go none = refl
+      go (some x) = refl
+  last-holds s (p ∷ ps) =
+      later-later (held (field s)) (select (pieceOf p)) (last select (map pieceOf ps))
+      ∙ ap (λ o. later o (last select (map pieceOf ps))) (holds-one s p)
+      ∙ last-holds (noted s p) ps

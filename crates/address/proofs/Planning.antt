@@ -1,0 +1,264 @@
+-- An address value that was interpreted: how many octets it is written as, and when it is refused.
+use Prim.Native.Nat.{ℕ, _+_, _-_, _*_, _/_, _%_, _≤_, _<_}
+use mathlib.Core.Path.{_≡_, refl, sym, ap, ap₂, _∙_, subst}
+use mathlib.Core.Bool.{Bool, true, false}
+use mathlib.Core.Logic.{_⊎_, inl, inr}
+use mathlib.Core.Option.{Option, none, some}
+use mathlib.Core.List.{List, [], _∷_, _++_, map, append-nil}
+use native.Mathlib.Omega.{arith}
+use borrow.Author.Tests.{le-leb, lt-leb, lt-ltb, leb-true}
+use lib.Dec.{leb, eqb}
+use lib.ListN.{length, getD, take, drop, length-drop}
+use lib.Seq.{take-all}
+use Rattle.bcd.specs.Outcome.{Outcome, accepted, refused, pick, after, mapped, each, All, Octets, most}
+use Rattle.bcd.specs.Digits.{builtIn, digitsIn, readDigits, writeDigits}
+use Rattle.bcd.proofs.Outcomes.{accepted-inj, never, le-or-lt, mapped-inv, demand-inv, bounded-within, each-append, each-inv}
+use Rattle.bcd.proofs.Characters.{builtIn-lawful}
+use Rattle.bcd.proofs.Writable.{write-inv}
+use Rattle.parameter.specs.Parameter.{Param, two, four, fourIn, paddedLength, runOctets, runLength, mostValue, twoAt, roundUp}
+use Rattle.parameter.specs.Walk
+use Rattle.parameter.specs.Walk.{valued}
+use Rattle.parameter.specs.declared.Place.{Place}
+use Rattle.parameter.proofs.Walking.{places-inside}
+use Rattle.parameter.proofs.Structure.{places-parameters}
+use Rattle.parameter.proofs.RoundTrip.{run-length-append}
+use Rattle.parameter.proofs.Reading.{parameters-room}
+use Rattle.address.specs.Address.{Address, titleOctets, writeTitle, Piece, title, code, sub, other, present, bit, addressWith, addressIn, readAddress, indicator, pieces, subParam, sized, writeAddress}
+use Rattle.address.specs.Records.{flagged}
+use Rattle.address.specs.Parts.{nothing, notedTitle, notedCode, notedSsn, notedOther, noted, noteAll, sooner, judged, shortRefusal, titleAt, keptTitle, keptCode, keptSub, otherPlaces, keptPieces}
+use Rattle.address.specs.Plan.{HeldIn, Walked, wireOf, Plan}
+use Rattle.address.specs.declared.parts.Kept.{Kept}
+use Rattle.address.specs.declared.parts.Parts.{Parts}
+use Rattle.address.proofs.Keeping.{kinds, Inside, value-length, pieceAt, judged-after}
+use Rattle.address.proofs.Interpreting.{by, kept-pieces, read-parts, others-length}
+use Rattle.address.proofs.Rewriting.{addressOctets, octets-length}
+use Rattle.address.proofs.Writable.{subs-write}
+
+pub each-one : {A B : Type 0} (f : A → Outcome (List B)) (x : A) → each f (x ∷ []) ≡ f x
+each-one {A} {B} f x = go (f x)
+  where
+    go : (o : Outcome (List B)) → after o (λ ys. mapped (λ zs. ys ++ zs) (accepted [])) ≡ o
+    go (accepted ys) = ap accepted (append-nil ys)
+    go (refused n vs) = refl
+
+pub mapped-refused : {A B : Type 0} (f : A → B) (o : Outcome A) {n : ℕ} {vs : List ℕ} → refused n vs ≡ mapped f o → o ≡ refused n vs
+mapped-refused f (accepted a) e = absurd (never e)
+mapped-refused f (refused m ws) {n} {vs} e = let a : m ≡ n = cc in let b : ws ≡ vs = cc in rw (a, b)
+
+-- An address value whose sub-parameters were walked.
+pub walked :
+    (v : List ℕ) (s : Parts)
+    → Octets v
+    → length v ≤ most
+    → 4 ≤ length v
+    → twoAt v 0 ≤ 4
+    → accepted s ≡ mapped (noteAll nothing) (Walk.places v 4)
+    → Walked v s
+walked v s o within long routing e =
+    let (ps, w, p) = mapped-inv (noteAll nothing) (Walk.places v 4) (sym e) in
+    record { octets = o; within = within; long = long; routing = routing; places = ps; walked = w; parts = sym p }
+
+-- A title's octets on the wire, by its digits.
+pub title-measured :
+    (w : List ℕ)
+    → mapped runLength (subParam builtIn (title (titleAt builtIn w)))
+    ≡ mapped (λ n. (n + 15) / 4 * 4) (mapped length (writeDigits builtIn (digitsIn builtIn (drop 8 w) (getD w 4 0))))
+unfolding subParam writeTitle runLength
+title-measured w = go (writeDigits builtIn (digitsIn builtIn (drop 8 w) (getD w 4 0)))
+  where
+    go :
+        (o : Outcome (List ℕ))
+        → mapped runLength (mapped (λ v. record { tag = 0x8001; value = v } ∷ []) (mapped (titleOctets (titleAt builtIn w)) o))
+        ≡ mapped (λ n. (n + 15) / 4 * 4) (mapped length o)
+    go (accepted os) = ap accepted (omega arith)
+    go (refused n vs) = refl
+
+read-digits : (xs : List ℕ) (count : ℕ) → length xs ≤ most → after (readDigits builtIn xs count) (writeDigits builtIn) ≡ writeDigits builtIn (digitsIn builtIn xs count)
+unfolding readDigits
+read-digits xs count h = ap (λ (o : Outcome (List ℕ)). after o (writeDigits builtIn)) (bounded-within xs (accepted (digitsIn builtIn xs count)) h)
+
+whole-part : (a : ℕ) (v : List ℕ) → take (length v - a) (drop a v) ≡ drop a v
+whole-part a v = take-all (length v - a) (drop a v) (omega (arith, length-drop a v))
+
+pub read-part :
+    (v : List ℕ) (count : ℕ)
+    → length v ≤ most
+    → after (readDigits builtIn (take (length v - 8) (drop 8 v)) count) (writeDigits builtIn) ≡ writeDigits builtIn (digitsIn builtIn (drop 8 v) count)
+read-part v count h =
+    ap (λ xs. after (readDigits builtIn xs count) (writeDigits builtIn)) (whole-part 8 v)
+    ∙ read-digits (drop 8 v) count (omega (arith, length-drop 8 v))
+
+-- It takes at most 140 octets.
+pub digits-small : (cs : List ℕ) (n : ℕ) → accepted n ≡ mapped length (writeDigits builtIn cs) → n ≤ 128
+unfolding writeDigits
+digits-small cs n e =
+    let (os, w, k) = mapped-inv length (writeDigits builtIn cs) (sym e) in
+    let (few, p) = demand-inv (leb (length cs) 255) 11 _ _ w in
+    let g = write-inv builtIn builtIn-lawful cs n e in
+    omega (arith, leb-true (length cs) 255 few, g .count)
+
+pub title-small : (w : List ℕ) (n : ℕ) → accepted n ≡ mapped runLength (subParam builtIn (title (titleAt builtIn w))) → n ≤ 140
+title-small w n e =
+    let (k, hk, same) = mapped-inv (λ n. (n + 15) / 4 * 4) (mapped length (writeDigits builtIn (digitsIn builtIn (drop 8 w) (getD w 4 0)))) (sym (e ∙ title-measured w)) in
+    let s = digits-small (digitsIn builtIn (drop 8 w) (getD w 4 0)) k (sym hk) in
+    omega arith
+
+-- A title that is kept, and none.
+pub title-there :
+    (v : List ℕ) (k : Kept) (o : Outcome ℕ)
+    → k .there ≡ true
+    → o ≡ mapped runLength (subParam builtIn (title (titleAt builtIn (valued v (k .place) .value))))
+    → o ≡ mapped runLength (each (subParam builtIn) (present title (keptTitle builtIn v k)))
+title-there v k o e h = rw e (h ∙ ap (mapped runLength) (sym (each-one (subParam builtIn) (title (titleAt builtIn (valued v (k .place) .value))))))
+
+pub kept-small :
+    (v : List ℕ) (k : Kept) (n : ℕ) → accepted n ≡ mapped runLength (each (subParam builtIn) (present title (keptTitle builtIn v k))) → n ≤ 140
+unfolding runLength
+kept-small v k n e = go (k .there) refl
+  where
+    go : (t : Bool) → k .there ≡ t → n ≤ 140
+    go true h =
+        let one = each-one (subParam builtIn) (title (titleAt builtIn (valued v (k .place) .value))) in
+        title-small (valued v (k .place) .value) n (rw h at e ∙ ap (mapped runLength) one)
+    go false h = let z : n ≡ 0 = accepted-inj (rw h at e) in omega arith
+
+pub title-absent : (v : List ℕ) (k : Kept) → k .there ≡ false → accepted 0 ≡ mapped runLength (each (subParam builtIn) (present title (keptTitle builtIn v k)))
+unfolding runLength
+title-absent v k e = rw e
+
+-- Where none is too short, what is kept lies inside the value and is long enough.
+pub record Sound (v : List ℕ) (s : Parts) : Type 0 where
+  pub title : HeldIn v 8 (s .title)
+  pub code : HeldIn v 4 (s .code)
+  pub ssn : HeldIn v 4 (s .ssn)
+
+unlike : {b : Bool} {X : Type 0} → b ≡ true → b ≡ false → X
+unlike {b} e f = let z : _≡_ {A = Bool} true false = sym e ∙ f in let n : _≡_ {A = ℕ} 0 1 = cc in absurd (omega arith)
+
+sooner-none : (k : Kept) (p : Place) (least : ℕ) → sooner k p least .there ≡ false → (k .there ≡ false) × (least ≤ p .length)
+sooner-none k p least e = kept (k .there) refl
+  where
+    long : k .there ≡ false → (least ≤ p .length) ⊎ (p .length < least) → (k .there ≡ false) × (least ≤ p .length)
+    long f (inl h) = (f, h)
+    long f (inr h) = unlike {X = (k .there ≡ false) × (least ≤ p .length)} refl (rw (f, lt-ltb (p .length) least h) at e)
+
+    kept : (t : Bool) → k .there ≡ t → (k .there ≡ false) × (least ≤ p .length)
+    kept true f = unlike {X = (k .there ≡ false) × (least ≤ p .length)} refl (rw f at e)
+    kept false f = long f (le-or-lt least (p .length))
+
+module _ (v : List ℕ) where
+  note-sound : (s : Parts) (p : Place) → Inside v p → (s .short .there ≡ false → Sound v s) → noted s p .short .there ≡ false → Sound v (noted s p)
+  unfolding noted
+  note-sound s p h f =
+      kinds (λ a b c. by a b c s p .short .there ≡ false → Sound v (by a b c s p)) (p .tag)
+      (λ e. let (t, l) = sooner-none (s .short) p 8 e in let k = f t in record { title = λ u. (h, l); code = k .code; ssn = k .ssn })
+      (λ e. let (t, l) = sooner-none (s .short) p 4 e in let k = f t in record { title = k .title; code = λ u. (h, l); ssn = k .ssn })
+      (λ e. let (t, l) = sooner-none (s .short) p 4 e in let k = f t in record { title = k .title; code = k .code; ssn = λ u. (h, l) })
+      (λ e. let k = f e in record { title = k .title; code = k .code; ssn = k .ssn })
+
+  notes-sound : (s : Parts) (ps : List Place) → All (Inside v) ps → (s .short .there ≡ false → Sound v s) → noteAll s ps .short .there ≡ false → Sound v (noteAll s ps)
+  unfolding noteAll
+  notes-sound s [] h f e = f e
+  notes-sound s (p ∷ ps) h f e = notes-sound (noted s p) ps (h .1) (note-sound s p (h .0) f) e
+
+  fewer : (ps : List Place) → runLength (map (valued v) (otherPlaces ps)) ≤ runLength (map (valued v) ps)
+  unfolding runLength
+  fewer [] = omega arith
+  fewer (p ∷ ps) =
+      kinds (λ a b c. runLength (map (valued v) (pick (pick a false (pick b false (pick c false true))) (p ∷ otherPlaces ps) (otherPlaces ps))) ≤ runLength (map (valued v) (p ∷ ps))) (p .tag)
+      (omega (arith, fewer ps)) (omega (arith, fewer ps)) (omega (arith, fewer ps)) (omega (arith, fewer ps))
+
+module _ {v : List ℕ} {s : Parts} (k : Walked v s) where
+  inside : All (Inside v) (k .places)
+  inside = places-inside v 4 (k .places) (k .walked)
+
+  pub sound : s .short .there ≡ false → Sound v s
+  sound e =
+      let none : Sound v nothing = record { title = λ t. unlike {X = _} t refl; code = λ t. unlike {X = _} t refl; ssn = λ t. unlike {X = _} t refl } in
+      rw (k .parts) (notes-sound v nothing (k .places) inside (λ e. none) (rw (k .parts) at e))
+
+  pub others-sum : s .«other_length» ≡ runLength (map (valued v) (otherPlaces (k .places)))
+  others-sum = ap (λ (s : Parts). s .«other_length») (k .parts) ∙ others-length v nothing (k .places) inside ∙ omega arith
+
+  pub others-small : s .«other_length» ≤ most
+  others-small =
+      let params = sym (places-parameters v 4) ∙ ap (mapped (map (valued v))) (k .walked) in
+      let room = parameters-room (drop 4 v) (map (valued v) (k .places)) params in
+      omega (arith, others-sum, fewer v (k .places), length-drop 4 v, k .within, k .long)
+
+-- What is written of each kind.
+abbrev pub paramOf : {X : Type 0} → (X → Param) → Option X → List Param
+paramOf f none = []
+paramOf f (some x) = f x ∷ []
+
+abbrev pub codeParam : ℕ → Param
+codeParam n = record { tag = 0x8002; value = four n }
+
+abbrev pub subOne : ℕ → Param
+subOne n = record { tag = 0x8003; value = 0 ∷ 0 ∷ 0 ∷ n ∷ [] }
+
+pub code-params : (o : Option ℕ) → each (subParam builtIn) (present code o) ≡ accepted (paramOf codeParam o)
+unfolding subParam
+code-params none = refl
+code-params (some n) = refl
+
+pub sub-params : (o : Option ℕ) → each (subParam builtIn) (present sub o) ≡ accepted (paramOf subOne o)
+unfolding subParam
+sub-params none = refl
+sub-params (some n) = refl
+
+other-params : (qs : List Param) → each (subParam builtIn) (map other qs) ≡ accepted qs
+unfolding subParam
+other-params [] = refl
+other-params (q ∷ qs) = rw (other-params qs)
+
+-- A point code or an SSN takes eight octets.
+pub four-length : (f : ℕ → Param) → ((n : ℕ) → length (f n .value) ≡ 4) → (b : Bool) (n : ℕ) → runLength (paramOf f (flagged b n)) ≡ pick b 8 0
+unfolding runLength
+four-length f h true n = rw (h n)
+four-length f h false n = refl
+
+each-first-refused :
+    {A B : Type 0} (f : A → Outcome (List B)) (xs ys : List A) (n : ℕ) (vs : List ℕ) → each f xs ≡ refused n vs → each f (xs ++ ys) ≡ refused n vs
+each-first-refused f [] ys n vs e = absurd (never (sym e))
+each-first-refused {A} {B} f (x ∷ xs) ys n vs e = go (f x) (each f xs) refl e (each-first-refused f xs ys n vs)
+  where
+    go :
+        (o : Outcome (List B)) (r : Outcome (List B))
+        → each f xs ≡ r
+        → after o (λ us. mapped (λ zs. us ++ zs) r) ≡ refused n vs
+        → (each f xs ≡ refused n vs → each f (xs ++ ys) ≡ refused n vs)
+        → after o (λ us. mapped (λ zs. us ++ zs) (each f (xs ++ ys))) ≡ refused n vs
+    go (accepted us) (accepted zs) q e ih = absurd (never (sym e))
+    go (accepted us) (refused m ws) q e ih = ap (mapped (λ zs. us ++ zs)) (ih (q ∙ e))
+    go (refused m ws) r q e ih = e
+
+module _ (v : List ℕ) (s : Parts) (ps : List Place) where
+  -- the sub-parameters that are written behind the title's
+  abbrev pub rest : List Param
+  rest = paramOf codeParam (keptCode v (s .code)) ++ (paramOf subOne (keptSub v (s .ssn)) ++ map (valued v) (otherPlaces ps))
+
+  pub rest-length :
+      runLength rest ≡ pick (s .code .there) 8 0 + (pick (s .ssn .there) 8 0 + runLength (map (valued v) (otherPlaces ps)))
+  rest-length =
+      run-length-append (paramOf codeParam (keptCode v (s .code))) _
+      ∙ ap₂ (λ (a b : ℕ). a + b) (four-length codeParam (λ n. refl) (s .code .there) _)
+      (run-length-append (paramOf subOne (keptSub v (s .ssn))) _
+      ∙ ap (λ (a : ℕ). a + runLength (map (valued v) (otherPlaces ps))) (four-length subOne (λ n. refl) (s .ssn .there) _))
+
+  pub kept-written :
+      (qs : List Param)
+      → each (subParam builtIn) (present title (keptTitle builtIn v (s .title))) ≡ accepted qs
+      → each (subParam builtIn) (keptPieces builtIn v s ps) ≡ accepted (qs ++ rest)
+  unfolding keptPieces
+  kept-written qs e =
+      each-append (subParam builtIn) (present title (keptTitle builtIn v (s .title))) _ qs rest e
+      (each-append (subParam builtIn) (present code (keptCode v (s .code))) _ _ _ (code-params (keptCode v (s .code)))
+      (each-append (subParam builtIn) (present sub (keptSub v (s .ssn))) _ _ _ (sub-params (keptSub v (s .ssn))) (other-params (map (valued v) (otherPlaces ps)))))
+
+  pub kept-refused :
+      (n : ℕ) (vs : List ℕ)
+      → each (subParam builtIn) (present title (keptTitle builtIn v (s .title))) ≡ refused n vs
+      → each (subParam builtIn) (keptPieces builtIn v s ps) ≡ refused n vs
+  unfolding keptPieces
+  kept-refused n vs e = each-first-refused (subParam builtIn) (present title (keptTitle builtIn v (s .title))) _ n vs e

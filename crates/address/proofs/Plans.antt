@@ -1,0 +1,130 @@
+-- An address value that was interpreted, read and written again: refused, or these octets.
+use Prim.Native.Nat.{ℕ, _+_, _*_, _/_, _%_, _^_, _≤_, _<_}
+use mathlib.Core.Path.{_≡_, refl, sym, ap, _∙_, subst}
+use mathlib.Core.Bool.{Bool, true, false}
+use mathlib.Core.Logic.{_⊎_, inl, inr}
+use mathlib.Core.List.{List, [], _∷_, _++_, map}
+use native.Mathlib.Omega.{arith}
+use borrow.Author.Tests.{le-leb, lt-leb}
+use lib.Dec.{eqb}
+use lib.ListN.{length, getD}
+use Rattle.bcd.specs.Outcome.{Outcome, accepted, refused, pick, after, mapped, each, fit64}
+use Rattle.bcd.specs.Digits.{builtIn}
+use Rattle.bcd.proofs.Outcomes.{le-or-lt, mapped-inv, bounded-within}
+use Rattle.bcd.proofs.Characters.{builtIn-lawful}
+use Rattle.parameter.specs.Parameter.{Param, two, runOctets, runLength, mostValue, twoAt}
+use Rattle.parameter.proofs.RoundTrip.{run-length, run-length-append}
+use Rattle.address.specs.Address.{Address, Piece, title, present, addressWith, addressIn, readAddress, indicator, pieces, subParam, sized, writeAddress}
+use Rattle.address.specs.Parts.{judged, shortRefusal, keptTitle, keptPieces}
+use Rattle.address.specs.Plan.{Walked, wireOf, Plan}
+use Rattle.address.specs.declared.parts.Parts.{Parts}
+use Rattle.address.proofs.Keeping.{pieceAt}
+use Rattle.address.proofs.Interpreting.{kept-pieces, read-parts}
+use Rattle.address.proofs.Planning.{rest, rest-length, kept-written, kept-refused, others-sum, others-small}
+use Rattle.address.proofs.Rewriting.{addressOctets, octets-length}
+use Rattle.address.proofs.Writable.{subs-write}
+
+bits : (n : ℕ) → n / 1 % 2 + n / 2 % 2 * 2 + n / 4 % 2 * 4 ≡ n % 8
+bits n =
+    let one : n / 1 ≡ n = omega arith in
+    let two : n / 4 ≡ n / 2 / 2 = omega arith in
+    let three : n / 8 ≡ n / 4 / 2 = omega arith in
+    rw one (omega arith)
+
+-- The address indicator's three bits, as they were read.
+indicator-bits : (routing n : ℕ) (xs : List Piece) → indicator (addressWith routing n xs) ≡ n % 8
+unfolding indicator addressWith
+indicator-bits routing n xs =
+    let a = one 1 (n / 1 % 2) (omega arith) in
+    let b = one 2 (n / 2 % 2) (omega arith) in
+    let c = one 4 (n / 4 % 2) (omega arith) in
+    let sum = bits n in
+    omega arith
+  where
+    one : (k x : ℕ) → x < 2 → pick (eqb x 1) k 0 ≡ x * k
+    one k x h = go (le-or-lt x 0)
+      where
+        go : (x ≤ 0) ⊎ (0 < x) → pick (eqb x 1) k 0 ≡ x * k
+        go (inl l) = let e : x ≡ 0 = omega arith in rw e (omega arith)
+        go (inr l) = let e : x ≡ 1 = omega arith in rw e (omega arith)
+
+module _ {v : List ℕ} {s : Parts} (k : Walked v s) (tag : ℕ) where
+  abbrev address : Address
+  address = addressWith (twoAt v 0) (getD v 3 0) (map (pieceAt builtIn v) (k .places))
+
+  read-known : readAddress builtIn v ≡ judged (s .short) (accepted address)
+  read-known = rw (k .parts) (read-parts builtIn v (k .places) (k .within) (k .long) (k .routing) (k .walked))
+
+  -- A sub-parameter that is too short refuses.
+  pub plan-short : s .short .there ≡ true → after (readAddress builtIn v) (writeAddress builtIn tag) ≡ shortRefusal (s .short .place)
+  plan-short e = ap (λ (o : Outcome Address). after o (writeAddress builtIn tag)) read-known ∙ rw e
+
+  module _ (whole : s .short .there ≡ false) where
+    read-whole : readAddress builtIn v ≡ accepted address
+    read-whole = read-known ∙ rw whole
+
+    written-again : after (readAddress builtIn v) (writeAddress builtIn tag) ≡ writeAddress builtIn tag address
+    written-again = ap (λ (o : Outcome Address). after o (writeAddress builtIn tag)) read-whole
+
+    pieces-known : pieces address ≡ keptPieces builtIn v s (k .places)
+    pieces-known = rw (k .parts) (kept-pieces builtIn v (k .places) (twoAt v 0) (getD v 3 0))
+
+    -- The title's digits refuse.
+    pub plan-unknown :
+        (n : ℕ) (vs : List ℕ)
+        → each (subParam builtIn) (present title (keptTitle builtIn v (s .title))) ≡ refused n vs
+        → after (readAddress builtIn v) (writeAddress builtIn tag) ≡ refused n vs
+    unfolding writeAddress
+    plan-unknown n vs e = written-again ∙ rw (pieces-known, kept-refused v s (k .places) n vs e)
+
+    -- Else only the length of the whole counts.
+    plan-sized :
+        (qs : List Param)
+        → each (subParam builtIn) (keptPieces builtIn v s (k .places)) ≡ accepted qs
+        → after (readAddress builtIn v) (writeAddress builtIn tag) ≡ sized tag (wireOf v qs)
+    unfolding readAddress addressWith
+    plan-sized qs e =
+        let read : addressIn builtIn v ≡ accepted address = sym (bounded-within v (addressIn builtIn v) (k .within)) ∙ read-whole in
+        written-again
+        ∙ subs-write builtIn builtIn-lawful tag v address (k .octets) read qs (ap (each (subParam builtIn)) pieces-known ∙ e)
+        ∙ ap (λ (b : ℕ). sized tag (two (twoAt v 0) ++ two b ++ runOctets qs)) (indicator-bits (twoAt v 0) (getD v 3 0) (map (pieceAt builtIn v) (k .places)))
+
+wire-length : (v : List ℕ) (qs : List Param) → length (wireOf v qs) ≡ 4 + runLength qs
+wire-length v qs = omega (arith, run-length qs)
+
+-- The sum of the parts' lengths is that of the octets.
+module _ {v : List ℕ} {s : Parts} (k : Walked v s) (whole : s .short .there ≡ false) (n total : ℕ)
+    (titled : accepted n ≡ mapped runLength (each (subParam builtIn) (present title (keptTitle builtIn v (s .title)))))
+    (sum : total ≡ 4 + n + pick (s .code .there) 8 0 + pick (s .ssn .there) 8 0 + s .«other_length») where
+  record Summed : Type 0 where
+    params : List Param
+    written : each (subParam builtIn) (keptPieces builtIn v s (k .places)) ≡ accepted params
+    size : 4 + runLength params ≡ total
+
+  summed : Summed
+  summed =
+      let (qs, e, l) = mapped-inv runLength (each (subParam builtIn) (present title (keptTitle builtIn v (s .title)))) (sym titled) in
+      record {
+        params = qs ++ rest v s (k .places);
+        written = kept-written v s (k .places) qs e;
+        size = omega (arith, run-length-append qs (rest v s (k .places)), rest-length v s (k .places), others-sum k);
+      }
+
+  pub plan-long : (tag : ℕ) → mostValue < total → total < 2 ^ 64 → after (readAddress builtIn v) (writeAddress builtIn tag) ≡ refused 10 (tag ∷ total ∷ [])
+  plan-long tag h small =
+      let m = summed in
+      let l : length (wireOf v (m .params)) ≡ total = wire-length v (m .params) ∙ m .size in
+      let f : fit64 total ≡ total = omega arith in
+      plan-sized k tag whole (m .params) (m .written) ∙ rw (l, lt-leb total mostValue h, f)
+
+  pub plan-made : total ≤ mostValue → Plan v s total
+  plan-made h = let m = summed in record { known = k; whole = whole; params = m .params; written = m .written; size = m .size; fits = h }
+
+-- What a plan is written as.
+pub plan-octets : {v : List ℕ} {s : Parts} {total : ℕ} (tag : ℕ) (p : Plan v s total) → after (readAddress builtIn v) (writeAddress builtIn tag) ≡ accepted (wireOf v (p .params))
+plan-octets {v} {s} {total} tag p =
+    let l : length (wireOf v (p .params)) ≡ total = wire-length v (p .params) ∙ p .size in
+    plan-sized (p .known) tag (p .whole) (p .params) (p .written) ∙ rw (l, le-leb total mostValue (p .fits))
+
+pub plan-length : {v : List ℕ} {s : Parts} {total : ℕ} (tag : ℕ) (p : Plan v s total) → accepted total ≡ mapped length (after (readAddress builtIn v) (writeAddress builtIn tag))
+plan-length {v} {s} {total} tag p = sym (ap (mapped length) (plan-octets tag p) ∙ ap accepted (wire-length v (p .params) ∙ p .size))

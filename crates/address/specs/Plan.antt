@@ -1,0 +1,59 @@
+-- Steps of the code between its public calls: an address value that was interpreted, and can be written. No public
+-- contract cites these.
+use Prim.Native.Nat.{ℕ, _+_, _%_, _≤_}
+use mathlib.Core.Path.{_≡_}
+use mathlib.Core.Bool.{true, false}
+use mathlib.Core.List.{List, _++_}
+use lib.ListN.{length, getD}
+use Rattle.bcd.specs.Outcome.{Outcome, accepted, after, mapped, each, Octets, most}
+use Rattle.bcd.specs.Answers.{refusalOf}
+use Rattle.bcd.specs.Digits.{builtIn}
+use Rattle.parameter.specs.Parameter.{Param, two, twoAt, runOctets, runLength, mostValue}
+use Rattle.parameter.specs.Walk
+use Rattle.parameter.specs.declared.Place.{Place}
+use Rattle.address.specs.Address.{subParam, readAddress, writeAddress}
+use Rattle.address.specs.Parts.{nothing, noteAll, keptPieces}
+use Rattle.address.specs.declared.parts.Kept.{Kept}
+use Rattle.address.specs.declared.parts.Parts.{Parts}
+use Rattle.address.specs.declared.rewrite.Planned.{Planned}
+use Rattle.address.specs.declared.rewrite.Planned.the-variants as P
+
+-- A sub-parameter that is kept lies inside the value, and has so many octets or more.
+abbrev pub HeldIn : List ℕ → (least : ℕ) → Kept → Type 0
+HeldIn v least k = k .there ≡ true → (k .place .start + k .place .length ≤ length v) × (least ≤ k .place .length)
+
+-- Sub-parameters that can be written, with room for them.
+pub record Ready (o : Outcome (List Param)) (out : List ℕ) : Type 0 where
+  pub params : List Param
+  pub accepts : o ≡ accepted params
+  pub room : runLength params ≤ length out
+
+-- An address value that reads without refusal but for a sub-parameter that is too short.
+pub record Walked (v : List ℕ) (s : Parts) : Type 0 where
+  pub octets : Octets v
+  pub within : length v ≤ most
+  pub long : 4 ≤ length v
+  pub routing : twoAt v 0 ≤ 4
+  pub places : List Place
+  pub walked : Walk.places v 4 ≡ accepted places
+  pub parts : s ≡ noteAll nothing places
+
+-- The octets in front of the sub-parameters: the routing indicator, and the three bits of the address indicator.
+abbrev pub headOctets : List ℕ → List ℕ
+headOctets v = two (twoAt v 0) ++ two (getD v 3 0 % 8)
+
+abbrev pub wireOf : List ℕ → List Param → List ℕ
+wireOf v qs = headOctets v ++ runOctets qs
+
+-- One that can be written, as so many octets.
+pub record Plan (v : List ℕ) (s : Parts) (total : ℕ) : Type 0 where
+  pub known : Walked v s
+  pub whole : s .short .there ≡ false
+  pub params : List Param
+  pub written : each (subParam builtIn) (keptPieces builtIn v s (known .places)) ≡ accepted params
+  pub size : 4 + runLength params ≡ total
+  pub fits : total ≤ mostValue
+
+abbrev pub PlanOf : (tag : ℕ) → List ℕ → Planned → Type 0
+PlanOf tag v (P.Plan s total) = Plan v s total
+PlanOf tag v (P.Refused r) = after (readAddress builtIn v) (writeAddress builtIn tag) ≡ refusalOf r

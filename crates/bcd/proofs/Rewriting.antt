@@ -1,0 +1,86 @@
+-- Digits that are read and written again: each half octet but 15 is written as it was read.
+use Prim.Native.Nat.{ℕ, zero, suc, _+_, _*_, _/_, _%_, _≤_, _<_, min}
+use mathlib.Core.Path.{_≡_, refl, sym, ap, _∙_}
+use mathlib.Core.Logic.{⊎-elim}
+use mathlib.Core.List.{List, [], _∷_, map}
+use native.Mathlib.Omega.{arith}
+use lib.Dec.{lit<}
+use lib.ListN.{length, getD, take, length-take, length-map, List·getD-eq-default}
+use lib.Seq.{getD-take}
+use Rattle.bcd.specs.Outcome.{Outcome, accepted, refused, after, mapped, All, most, bounded}
+use Rattle.bcd.specs.Digits.{halves, pack, characters, builtIn, digitsIn, readDigits, writeDigits}
+use Rattle.bcd.proofs.Outcomes.{le-or-lt, bounded-within, bounded-beyond}
+use Rattle.bcd.proofs.Halves.{halves-length, halves-low, halves-high, pack-length}
+use Rattle.bcd.proofs.Characters.{builtIn-written, builtIn-distinct}
+use Rattle.bcd.proofs.Writable.{nibbles, some-bad, all-good}
+use Rattle.bcd.proofs.Reading.{digits-length, digits-most}
+use Rattle.bcd.proofs.Digits.{Back, nibbles-back}
+
+-- a half octet below 15 is written as it was read; any other number reads as ?
+back : (h : ℕ) → h < 15 → Back builtIn h
+back h l = builtIn-written h (omega arith) (λ e. let z = builtIn-distinct h 15 (omega arith) (lit< tt) e in omega arith)
+
+question : (h : ℕ) → 15 ≤ h → builtIn .char h ≡ 0x3F
+question h l = ⊎-elim (λ k. let e : h ≡ 15 = omega arith in ap (builtIn .char) e) (λ k. List·getD-eq-default characters 0x3F k) (le-or-lt h 15)
+
+-- the first m half octets are all below 15
+abbrev pub Known : List ℕ → ℕ → Type 0
+Known xs m = (j : ℕ) → j < m → getD (halves xs) j 0 < 15
+
+pub known-none : (xs : List ℕ) → Known xs 0
+known-none xs j h = absurd (omega arith)
+
+-- one octet more, and the low half of one more
+pub known-octet : (xs : List ℕ) (i : ℕ) → Known xs (2 * i) → getD xs i 0 % 16 < 15 → getD xs i 0 / 16 < 15 → Known xs (2 * (i + 1))
+known-octet xs i k low high j h =
+    ⊎-elim (λ l. ⊎-elim (λ m. let e : j ≡ 2 * i = omega arith in rw (e, halves-low xs i) low)
+    (λ m. let e : j ≡ 2 * i + 1 = omega arith in rw (e, halves-high xs i) high)
+    (le-or-lt j (2 * i))) (λ l. k j l) (le-or-lt (2 * i) j)
+
+pub known-low : (xs : List ℕ) (i : ℕ) → Known xs (2 * i) → getD xs i 0 % 16 < 15 → Known xs (2 * i + 1)
+known-low xs i k low j h =
+    ⊎-elim (λ l. let e : j ≡ 2 * i = omega arith in rw (e, halves-low xs i) low) (λ l. k j l) (le-or-lt (2 * i) j)
+
+backs : (hs : List ℕ) → ((j : ℕ) → j < length hs → getD hs j 0 < 15) → All (Back builtIn) hs
+backs [] k = tt
+backs (h ∷ hs) k = (back h (k 0 (omega arith)), backs hs (λ j l. k (suc j) (omega arith)))
+
+refuses : (hs : List ℕ) (j : ℕ) → j < length hs → 15 ≤ getD hs j 0 → nibbles builtIn (map (builtIn .char) hs) ≡ refused 9 (0x3F ∷ [])
+refuses [] j l b = absurd (omega arith)
+refuses (h ∷ hs) zero l b = rw (question h b)
+refuses (h ∷ hs) (suc j) l b = ⊎-elim (λ k. rw (question h k)) (λ k. rw (back h k, refuses hs j (omega arith) b)) (le-or-lt 15 h)
+
+module _ (xs : List ℕ) (n : ℕ) (small : n ≤ 255) where
+  few : length (map (builtIn .char) (take n (halves xs))) ≤ 255
+  few = rw (length-map (take n (halves xs)) (builtIn .char), length-take n (halves xs)) (omega arith)
+
+  pub known-written : n ≤ 2 * length xs → Known xs n → writeDigits builtIn (digitsIn builtIn xs n) ≡ accepted (pack (take n (halves xs)))
+  unfolding digitsIn
+  known-written l k =
+      all-good builtIn _ (take n (halves xs)) few
+      (nibbles-back builtIn (take n (halves xs)) (backs (take n (halves xs))
+      (λ j h. let i : j < n = omega (arith, length-take n (halves xs)) in rw (getD-take n (halves xs) j 0 i) (k j i))))
+
+  pub unknown-refused : (j : ℕ) → n ≤ 2 * length xs → j < n → 15 ≤ getD (halves xs) j 0 → writeDigits builtIn (digitsIn builtIn xs n) ≡ refused 9 (0x3F ∷ [])
+  unfolding digitsIn
+  unknown-refused j l h b =
+      some-bad builtIn _ 9 (0x3F ∷ []) few
+      (refuses (take n (halves xs)) j (rw (length-take n (halves xs), halves-length xs) (omega arith)) (rw (getD-take n (halves xs) j 0 h) b))
+
+-- digits read and written again, 12 first
+pub rewrite-beyond : (xs : List ℕ) (count : ℕ) → most < length xs → after (readDigits builtIn xs count) (writeDigits builtIn) ≡ refused 12 (length xs ∷ [])
+unfolding readDigits
+rewrite-beyond xs count h = rw (bounded-beyond xs (accepted (digitsIn builtIn xs count)) h)
+
+pub rewrite-within :
+    (xs : List ℕ) (count n : ℕ)
+    → length xs ≤ most
+    → n ≡ min count (2 * length xs)
+    → after (readDigits builtIn xs count) (writeDigits builtIn) ≡ writeDigits builtIn (digitsIn builtIn xs n)
+unfolding readDigits
+rewrite-within xs count n h e =
+    ap (λ (o : Outcome (List ℕ)). after o (writeDigits builtIn)) (bounded-within xs (accepted (digitsIn builtIn xs count)) h)
+    ∙ ap (writeDigits builtIn) (sym (digits-most builtIn xs count) ∙ ap (digitsIn builtIn xs) (sym e))
+
+pub halves-packed : (xs : List ℕ) (n : ℕ) → n ≤ 2 * length xs → length (pack (take n (halves xs))) ≡ (n + 1) / 2
+halves-packed xs n h = pack-length (take n (halves xs)) ∙ ap (λ (k : ℕ). (k + 1) / 2) (rw (length-take n (halves xs), halves-length xs) (omega arith))

@@ -5,4 +5,5 @@ pub mod Sua
 pub mod Settled
 pub mod Demand3
 pub mod Passes
+pub mod Measuring
 pub mod Worked

@@ -1,5 +1,5 @@
 -- Settling as the code goes: the header, then the walk, and each parameter's part of the form in turn.
-use Prim.Native.Nat.{ℕ, _+_, _*_, _≤_, _<_}
+use Prim.Native.Nat.{ℕ, _+_, _-_, _*_, _≤_, _<_}
 use mathlib.Core.Path.{_≡_, refl, sym, ap, _∙_, subst}
 use mathlib.Core.Bool.{Bool, true, false}
 use mathlib.Core.List.{List, [], _∷_, _++_, map, map-append, append-nil, append-assoc}
@@ -16,6 +16,7 @@ use Rattle.parameter.specs.Walk.{places, valued, parameters}
 use Rattle.parameter.proofs.Structure.{places-parameters}
 use Rattle.parameter.proofs.RoundTrip.{run-length, run-length-append}
 use Rattle.parameter.proofs.Encoding.{wire-within}
+use Rattle.parameter.proofs.Running.{part-of}
 use Rattle.address.specs.Address.{addressIn, readAddress, writeAddress, rewriteAddress, subParam, pieces, indicator}
 use Rattle.message.specs.declared.header.CommonHeader.{CommonHeader}
 use Rattle.message.specs.Message.{Message, readHeader, readMessage, messageOctets}
@@ -174,3 +175,21 @@ sum-small (accepted n) p r k h s e = rw e (go (settledParam builtIn p) refl)
     go : (o : Outcome (List Param)) → settledParam builtIn p ≡ o → sumOf (mapped (λ qs. n + runLength qs) o) ≤ k + 65536
     go (accepted qs) q = let l = param-small p qs h q in omega arith
     go (refused m vs) q = omega arith
+
+pub length-small : (p : Param) (n : ℕ) → length (p .value) ≤ mostValue → accepted n ≡ mapped runLength (settledParam builtIn p) → n ≤ 65536
+length-small p n h e =
+    let (qs, q, l) = mapped-inv runLength (settledParam builtIn p) (sym e) in
+    rw (← l) (param-small p qs h q)
+
+-- the parameter at a place, lent as a part of the message
+pub valued-part : (xs : List ℕ) (p : Place) → record { tag = p .tag; value = take (p .start + p .length - p .start) (drop (p .start) xs) } ≡ valued xs p
+valued-part xs p = ap (λ (v : List ℕ). record { tag = p .tag; value = v }) (part-of (p .start) (p .length) xs)
+
+pub valued-length : (xs : List ℕ) (p : Place) → p .start + p .length ≤ length xs → length (valued xs p .value) ≡ p .length
+valued-length xs p h = rw (length-take (p .length) (drop (p .start) xs), length-drop (p .start) xs) (omega arith)
+
+-- a sum with one parameter more
+pub added : (p q : Param) (total : ℕ) (r : Outcome ℕ) → p ≡ q → r ≡ mapped runLength (settledParam builtIn p) → mapped (λ n. total + n) r ≡ mapped (λ qs. total + runLength qs) (settledParam builtIn q)
+added p q total r same e =
+    ap (mapped (λ n. total + n)) (e ∙ ap (λ (p : Param). mapped runLength (settledParam builtIn p)) same)
+    ∙ mapped-mapped (λ n. total + n) runLength (settledParam builtIn q)

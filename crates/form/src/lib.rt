@@ -1,7 +1,23 @@
 // The settled form of a message: octets that depend on its meaning and on nothing else.
+use bcd::error::Counted;
+use bcd::error::Refusal;
+use message::header::CommonHeader;
+use message::header::HeaderRead;
+use parameter::Cursor;
+use parameter::Place;
+use parameter::Step;
 use parameter::tags;
 ghost use mathlib.Core.Path.{_≡_};
-ghost use Rattle.form.specs.Form.{isAddress};
+ghost use Prim.Native.Nat.{ℕ, _+_, _*_, _≤_};
+ghost use mathlib.Core.List.{List};
+ghost use lib.ListN.{length};
+ghost use Rattle.bcd.specs.Outcome.{Outcome, accepted, after, mapped, most, deliver};
+ghost use Rattle.bcd.specs.Answers.{countedOf};
+ghost use Rattle.bcd.specs.Digits.{builtIn};
+ghost use Rattle.parameter.specs.Parameter.{Param, mostValue, runOctets, runLength};
+ghost use Rattle.parameter.specs.Walk.{valued};
+ghost use Rattle.form.specs.Form.{isAddress, settledParam, settled};
+ghost use Rattle.form.specs.Passes.{settledRun, sumOf};
 
 // Whether a parameter is a source or a destination address.
 fn is_address(tag: u16) -> bool
@@ -11,5 +27,80 @@ fn is_address(tag: u16) -> bool
         tags::SOURCE_ADDRESS => true,
         tags::DESTINATION_ADDRESS => true,
         _ => false,
+    }
+}
+
+// What a parameter takes in the form. An address's refusals, 9, 10.
+fn settled_length_of(tag: u16, value: &[u8]) -> Counted
+    requires { ⌜ length (now value) ≤ mostValue ⌝ }
+    ensures { λ r. ⌜ countedOf r ≡ mapped runLength (settledParam builtIn (record { tag = tag; value = now (value .entry) })) ⌝ }
+{
+    if is_address(tag) {
+        return match address::rewrite::rewritten_length(tag, value) {
+            Counted::Refused(r) => Counted::Refused(r),
+            Counted::Count(n) => parameter::wire_length(tag, n),
+        };
+    }
+    parameter::wire_length(tag, value.len())
+}
+
+// The sum with one parameter more, or the refusal that came first.
+fn add(sum: Counted, input: &[u8], place: Place) -> Counted
+    requires { ⌜ place .start + place .length ≤ lib.ListN.length (now input) ⌝ }
+    requires { ⌜ place .length ≤ mostValue ⌝ }
+    requires { ⌜ sumOf (countedOf sum) ≤ 65536 * most ⌝ }
+    ensures { λ r. ⌜ countedOf r ≡ after (countedOf sum) (λ n. mapped (λ qs. n + runLength qs) (settledParam builtIn (valued (now (input .entry)) place))) ⌝ }
+{
+    match sum {
+        Counted::Refused(r) => Counted::Refused(r),
+        Counted::Count(total) => {
+            let start = place.start;
+            let end = start + place.length;
+            match settled_length_of(place.tag, &input[start..end]) {
+                Counted::Refused(refusal) => Counted::Refused(refusal),
+                Counted::Count(n) => Counted::Count(total + n),
+            }
+        }
+    }
+}
+
+// What the parameters of the form take. 5 or 6 in wire order, then each address's refusals, 9, 10.
+fn measure(input: &[u8]) -> Counted
+    requires { ⌜ length (now input) ≤ most ⌝ }
+    ensures { λ r. ⌜ countedOf r ≡ mapped runLength (settledRun builtIn (now (input .entry))) ⌝ }
+{
+    let mut c = Cursor {
+        at: CommonHeader::SIZE,
+    };
+    let mut sum = Counted::Count(0);
+    let mut n: usize = 0;
+    while n < input.len() {
+        match c.step(input) {
+            Step::Parameter(place, next) => {
+                sum = add(sum, input, place);
+                c = next;
+                n = n + 1;
+            }
+            Step::End => {
+                return sum;
+            }
+            Step::Refused(r) => {
+                return Counted::Refused(r);
+            }
+        }
+    }
+    sum
+}
+
+// The length of a message's form, with the refusals of settling except 14.
+pub fn settled_length(input: &[u8]) -> Counted
+    ensures { λ r. ⌜ countedOf r ≡ mapped length (settled builtIn (now (input .entry))) ⌝ }
+{
+    match CommonHeader::decode(input) {
+        HeaderRead::Refused(r) => Counted::Refused(r),
+        HeaderRead::Header(_) => match measure(input) {
+            Counted::Refused(refusal) => Counted::Refused(refusal),
+            Counted::Count(run) => Counted::Count(8 + run),
+        },
     }
 }

@@ -25,7 +25,7 @@ pub list-refused : (xs : List ℕ) (t : Table) (n : ℕ) (vs : List ℕ) → rea
 unfolding listMessage messagePlaces tabulate
 list-refused xs t n vs e = rw e
 
-header-within : (xs : List ℕ) (h : CommonHeader) → readHeader xs ≡ accepted h → length xs ≤ most
+pub header-within : (xs : List ℕ) (h : CommonHeader) → readHeader xs ≡ accepted h → length xs ≤ most
 unfolding readHeader
 header-within xs h e = leb-true (length xs) most (demand-inv (leb (length xs) most) 12 _ _ e .0)
 

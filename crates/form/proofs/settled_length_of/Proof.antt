@@ -1,0 +1,68 @@
+-- `form::settled_length_of` meets its contract, for an address and for any other parameter.
+use mathlib.Core.Path.{_≡_, sym, ap, _∙_}
+use lib.ListN.{length}
+use Rattle.bcd.specs.Outcome.{mapped}
+use Rattle.bcd.specs.Answers.{countedOf}
+use Rattle.form.proofs.Passes.{rewrite-read, raw-length, address-length, address-refused}
+use borrow.Author.Needs.{needs}
+use Rattle.form.proofs.settled_length_of.Statement.{statement}
+use Rattle.form.proofs.settled_length_of.Tie as tie
+use Rattle.form.proofs.settled_length_of.Reads as reads
+use Rattle.form.proofs.settled_length_of.Lts as lts
+use Rattle.address.proofs.rewrite.rewritten_length.Reads as rewritten-length-reads
+use Rattle.form.proofs.is_address.Reads as is-address-reads
+use Rattle.parameter.proofs.wire_length.Reads as wire-length-reads
+
+is-address-requires : tie.Need-is-address-requires
+is-address-requires c κs = search needs
+
+rewritten-length-requires : tie.Need-rewritten-length-requires
+rewritten-length-requires c κs = search needs
+
+enum-known-r : tie.Need-enum-known-r
+enum-known-r c = search needs
+
+enum-known-n : tie.Need-enum-known-n
+enum-known-n c = search needs
+
+wire-length-requires : tie.Need-wire-length-requires
+wire-length-requires c κs = search needs
+
+returns : tie.Need-returns
+returns c =
+    let w = c .before .before .before in
+    let i = w .before .before in
+    let s = i .before .before in
+    let told = sym (ap countedOf (c .before .r .given .1)) ∙ w .rewritten-length .ensures ∙ ap (mapped length) (rewrite-read (s .args .tag) (s .args .value .now) (s .pre)) in
+    address-refused (s .args .tag) (s .args .value .now) (sym (i .is-address .ensures) ∙ w .before .if1 .taken) _ _ told
+
+returns-2 : tie.Need-returns-2
+returns-2 c =
+    let w = c .before .before .before .before in
+    let i = w .before .before in
+    let s = i .before .before in
+    let told = sym (ap countedOf (c .before .before .n .given .1)) ∙ w .rewritten-length .ensures ∙ ap (mapped length) (rewrite-read (s .args .tag) (s .args .value .now) (s .pre)) in
+    c .wire-length .ensures ∙ address-length (s .args .tag) (s .args .value .now) (sym (i .is-address .ensures) ∙ w .before .if1 .taken) _ told
+
+wire-length-requires-2 : tie.Need-wire-length-requires-2
+wire-length-requires-2 c κs = search needs
+
+returns-3 : tie.Need-returns-3
+returns-3 c =
+    let i = c .before .before in
+    let s = i .before .before in
+    c .wire-length2 .ensures ∙ raw-length (s .args .tag) (s .args .value .now) (sym (i .is-address .ensures) ∙ c .before .if1 .left) (s .pre)
+
+pub settled-length-of-spec : {M : Type 1} → statement M
+settled-length-of-spec =
+    tie.close
+    (tie.spec
+    is-address-requires
+    rewritten-length-requires
+    enum-known-r
+    enum-known-n
+    wire-length-requires
+    returns
+    returns-2
+    wire-length-requires-2
+    returns-3)

@@ -6,4 +6,6 @@ pub mod Settled
 pub mod Demand3
 pub mod Passes
 pub mod Measuring
+pub mod Placing
+pub mod Written
 pub mod Worked

@@ -1,0 +1,114 @@
+-- How far the second pass has come: the parameters written, and the octets in front of the buffer.
+use Prim.Native.Nat.{ℕ, _+_, _-_, _*_, _≤_, _<_}
+use mathlib.Core.Path.{_≡_, refl, sym, ap, ap₂, _∙_, subst}
+use mathlib.Core.Bool.{Bool, true, false}
+use mathlib.Core.List.{List, [], _∷_, _++_, map, map-append, append-nil, append-assoc}
+use native.Mathlib.Omega.{arith}
+use lib.ListN.{length, take, drop, length-append, length-take, length-drop, take-append-drop}
+use lib.Seq.{take-at, drop-at, drop-append-add, drop-drop, length-take-le}
+use borrow.Rule.Slice.PartMut.{midOf, putMid}
+use Rattle.bcd.specs.Outcome.{Outcome, accepted, refused, after, mapped, each, deliver, Delivered}
+use Rattle.bcd.specs.Digits.{builtIn}
+use Rattle.bcd.proofs.Outcomes.{accepted-inj, never, mapped-inv, each-inv, each-split, each-append, each-cons, deliver-buffer, deliver-answer, deliver-fits}
+use Rattle.bcd.proofs.Writing.{Begun, begin, untouched, extend, delivered}
+use Rattle.parameter.specs.declared.Place.{Place}
+use Rattle.parameter.specs.Parameter.{Param, paddedLength, mostValue, paramOctets, runOctets, runLength, frameParam, encodeParam}
+use Rattle.parameter.specs.Walk.{ended, found, stepAt, places, valued}
+use Rattle.parameter.proofs.RoundTrip.{octets-length, run-length, run-length-append, run-octets-append}
+use Rattle.parameter.proofs.Encoding.{frame-known, encode-within}
+use Rattle.parameter.proofs.Walking.{step-inv}
+use Rattle.parameter.proofs.Reaching.{Reached, reached-start, reached-out, reached-next, reached-end, reached-refused}
+use Rattle.address.specs.Address.{rewriteAddress}
+use Rattle.form.specs.Form.{isAddress, settledParam}
+use Rattle.form.specs.Passes.{settledRun, Placeable}
+use Rattle.form.proofs.Passes.{settled-address, settled-raw, one-length, one-octets, rewrite-small, run-walked, run-refused}
+
+-- A parameter that is not an address is written as it is.
+pub raw-placed :
+    (tag : ℕ) (v out d : List ℕ) (r : ℕ) {a : Outcome ℕ}
+    → isAddress tag ≡ false
+    → length v ≤ mostValue
+    → r ≡ paddedLength (length v)
+    → paddedLength (length v) ≤ length out
+    → record { answer = a; buffer = d } ≡ deliver (encodeParam (record { tag = tag; value = v })) out
+    → record { answer = accepted r; buffer = d } ≡ deliver (mapped runOctets (settledParam builtIn (record { tag = tag; value = v }))) out
+raw-placed tag v out d r t h e room k =
+    let p : Param = record { tag = tag; value = v } in
+    let whole : encodeParam p ≡ mapped runOctets (settledParam builtIn p) = encode-within p h ∙ ap accepted (sym (one-octets p)) ∙ sym (ap (mapped runOctets) (settled-raw tag v t)) in
+    let l = octets-length p in
+    let b = begin out (paramOctets p) d (omega arith) (deliver-buffer (paramOctets p) out (omega arith) (k ∙ ap (λ o. deliver o out) (encode-within p h))) in
+    delivered r b (omega arith) ∙ ap (λ o. deliver o out) (sym (encode-within p h) ∙ whole)
+
+-- The octets of w stand at the fifth octet of a buffer that was lent from there on.
+module _ (out w last : List ℕ) (room : 4 + length w ≤ length out) (e : last ≡ w ++ drop (length w) (midOf 4 (length out - 4) out)) where
+  abbrev lent : List ℕ
+  lent = putMid 4 (length out - 4) out last
+
+  begun : Begun out (take 4 out ++ w) lent
+  begun =
+      let l = length-take-le 4 out (omega arith) in
+      let b = begin out (take 4 out) out (omega arith) (sym (take-append-drop 4 out) ∙ ap (λ (k : ℕ). take 4 out ++ drop k out) (sym l)) in
+      extend w last 4 (length out - 4) b l (omega arith) (omega arith) e
+
+  lent-prefix : length (take 4 out ++ w) ≡ 4 + length w
+  lent-prefix = rw (length-append (take 4 out) w, length-take-le 4 out (omega arith))
+
+  pub lent-value : take (length w) (drop 4 lent) ≡ w
+  lent-value =
+      let l = length-take-le 4 out (omega arith) in
+      let rest = drop (length (take 4 out ++ w)) out in
+      ap (λ (d : List ℕ). take (length w) (drop 4 d)) (begun .holds ∙ append-assoc (take 4 out) w rest)
+      ∙ ap (take (length w)) (drop-at (take 4 out) (w ++ rest) 4 l)
+      ∙ take-at w rest (length w) refl
+
+  pub lent-beyond : (k : ℕ) → 4 + length w ≤ k → drop k lent ≡ drop k out
+  lent-beyond k h =
+      let p = take 4 out ++ w in
+      let lp = lent-prefix in
+      let sum : k ≡ length p + (k - length p) = omega arith in
+      ap (drop k) (begun .holds)
+      ∙ ap (λ (i : ℕ). drop i (p ++ drop (length p) out)) sum
+      ∙ drop-append-add p (drop (length p) out) (k - length p)
+      ∙ drop-drop (k - length p) (length p) out
+      ∙ ap (λ (i : ℕ). drop i out) (sym sum)
+
+  pub lent-length : length lent ≡ length out
+  lent-length = begun .same
+
+-- An address is written again at the fifth octet, and framed.
+pub address-placed :
+    (tag : ℕ) (v w out last d : List ℕ) (r : ℕ) {a : Outcome ℕ}
+    → isAddress tag ≡ true
+    → rewriteAddress builtIn tag v ≡ accepted w
+    → r ≡ paddedLength (length w)
+    → paddedLength (length w) ≤ length out
+    → last ≡ w ++ drop (length w) (midOf 4 (length out - 4) out)
+    → record { answer = a; buffer = d } ≡ deliver (frameParam tag (length w) (putMid 4 (length out - 4) out last)) (putMid 4 (length out - 4) out last)
+    → record { answer = accepted r; buffer = d } ≡ deliver (mapped runOctets (settledParam builtIn (record { tag = tag; value = v }))) out
+address-placed tag v w out last d r t hw e room le k =
+    let small = rewrite-small tag v w hw in
+    let q : Param = record { tag = tag; value = w } in
+    let lent = putMid 4 (length out - 4) out last in
+    let at4 : 4 + length w ≤ length out = omega arith in
+    let ll = lent-length out w last at4 le in
+    let frame : frameParam tag (length w) lent ≡ accepted (paramOctets q) =
+    frame-known tag (length w) lent small (omega arith) ∙ ap (λ (x : List ℕ). accepted (paramOctets (record { tag = tag; value = x }))) (lent-value out w last at4 le) in
+    let l = octets-length q in
+    let held : d ≡ paramOctets q ++ drop (length (paramOctets q)) lent = deliver-buffer (paramOctets q) lent (omega arith) (k ∙ ap (λ o. deliver o lent) frame) in
+    let b = begin out (paramOctets q) d (omega arith) (held ∙ ap (λ (x : List ℕ). paramOctets q ++ x) (lent-beyond out w last at4 le (length (paramOctets q)) (omega arith))) in
+    let whole : accepted (paramOctets q) ≡ mapped runOctets (settledParam builtIn (record { tag = tag; value = v })) =
+    ap accepted (sym (one-octets q)) ∙ sym (ap (mapped runOctets) (settled-address tag v t ∙ ap (mapped (λ w. record { tag = tag; value = w } ∷ [])) hw)) in
+    delivered r b (omega arith) ∙ ap (λ o. deliver o out) whole
+
+-- What is known of a parameter that can be placed
+pub placeable-address : (tag : ℕ) (v : List ℕ) (room : ℕ) → isAddress tag ≡ true → Placeable (record { tag = tag; value = v }) room → (w : List ℕ) × (rewriteAddress builtIn tag v ≡ accepted w) × (paddedLength (length w) ≤ room)
+placeable-address tag v room t p =
+    let (w, hw, same) = mapped-inv (λ w. record { tag = tag; value = w } ∷ []) (rewriteAddress builtIn tag v) (sym (settled-address tag v t) ∙ p .settles) in
+    let l : runLength (record { tag = tag; value = w } ∷ []) ≤ room = rw same (p .fits) in
+    (w, hw, rw (one-length (record { tag = tag; value = w })) at l)
+
+pub placeable-raw : (tag : ℕ) (v : List ℕ) (room : ℕ) → isAddress tag ≡ false → Placeable (record { tag = tag; value = v }) room → paddedLength (length v) ≤ room
+placeable-raw tag v room t p =
+    let same : record { tag = tag; value = v } ∷ [] ≡ p .params = accepted-inj (sym (settled-raw tag v t) ∙ p .settles) in
+    let l : runLength (record { tag = tag; value = v } ∷ []) ≤ room = rw same (p .fits) in
+    rw (one-length (record { tag = tag; value = v })) at l

@@ -21,6 +21,7 @@ use Rattle.address.specs.Address.{addressIn, readAddress, writeAddress, rewrite
 use Rattle.message.specs.declared.header.CommonHeader.{CommonHeader}
 use Rattle.message.specs.Message.{Message, readHeader, readMessage, messageOctets}
 use Rattle.message.proofs.Messages.{message-length}
+use Rattle.message.proofs.Listing.{framed}
 use Rattle.form.specs.Form.{isAddress, settledParam, settled}
 use Rattle.form.specs.Passes.{settledRun, sumOf}
 
@@ -193,3 +194,21 @@ pub added : (p q : Param) (total : ℕ) (r : Outcome ℕ) → p ≡ q → r ≡ 
 added p q total r same e =
     ap (mapped (λ n. total + n)) (e ∙ ap (λ (p : Param). mapped runLength (settledParam builtIn p)) same)
     ∙ mapped-mapped (λ n. total + n) runLength (settledParam builtIn q)
+
+-- a form whose parameters are known
+pub record Run (A : Alphabet) (xs : List ℕ) (h : CommonHeader) (run : ℕ) : Type 0 where
+  pub octets : List ℕ
+  pub written : mapped runOctets (settledRun A xs) ≡ accepted octets
+  pub whole : settled A xs ≡ accepted (framed (h .«message_type») octets)
+  pub size : run ≡ length octets
+
+pub run-known : (A : Alphabet) (xs : List ℕ) (h : CommonHeader) (run : ℕ) → readHeader xs ≡ accepted h → accepted run ≡ mapped runLength (settledRun A xs) → Run A xs h run
+unfolding messageOctets
+run-known A xs h run e k =
+    let (qs, q, l) = mapped-inv runLength (settledRun A xs) (sym k) in
+    record {
+      octets = runOctets qs;
+      written = ap (mapped runOctets) q;
+      whole = settled-run A xs h e ∙ ap (mapped (messageOctets (h .«message_type»))) q;
+      size = sym l ∙ sym (run-length qs);
+    }

@@ -1,5 +1,5 @@
 -- Settling as the code goes: the header, then the walk, and each parameter's part of the form in turn.
-use Prim.Native.Nat.{ℕ, _+_, _-_, _*_, _≤_, _<_}
+use Prim.Native.Nat.{ℕ, _+_, _-_, _≤_}
 use mathlib.Core.Path.{_≡_, refl, sym, ap, _∙_, subst}
 use mathlib.Core.Bool.{Bool, true, false}
 use mathlib.Core.List.{List, [], _∷_, _++_, map, map-append, append-nil, append-assoc}
@@ -7,9 +7,9 @@ use native.Mathlib.Omega.{arith}
 use lib.Dec.{leb}
 use lib.ListN.{length, take, drop, length-take, length-drop}
 use borrow.Author.Tests.{leb-true}
-use Rattle.bcd.specs.Outcome.{Outcome, accepted, refused, pick, after, demand, mapped, each, most}
+use Rattle.bcd.specs.Outcome.{Outcome, accepted, refused, after, mapped, each}
 use Rattle.bcd.specs.Digits.{Alphabet, builtIn}
-use Rattle.bcd.proofs.Outcomes.{accepted-inj, never, after-inv, mapped-inv, mapped-mapped, demand-inv, bounded-within, each-inv, each-cons}
+use Rattle.bcd.proofs.Outcomes.{accepted-inj, never, after-inv, mapped-inv, mapped-mapped, demand-inv, bounded-within}
 use Rattle.parameter.specs.declared.Place.{Place}
 use Rattle.parameter.specs.Parameter.{Param, two, paddedLength, mostValue, paramOctets, runOctets, runLength, encodeParam, wireLength}
 use Rattle.parameter.specs.Walk.{places, valued, parameters}

@@ -12,7 +12,7 @@ use Rattle.bcd.proofs.Writing.{Begun, untouched, extend, delivered}
 use Rattle.parameter.specs.declared.Place.{Place}
 use Rattle.parameter.specs.Parameter.{Param, mostValue, runOctets, runLength}
 use Rattle.parameter.specs.Walk
-use Rattle.parameter.specs.Walk.{Walked, ended, found, onward, stepAt, steps, places, valued}
+use Rattle.parameter.specs.Walk.{ended, found, stepAt, steps, places, valued}
 use Rattle.parameter.proofs.RoundTrip.{run-length, run-length-append, run-octets-append}
 use Rattle.parameter.proofs.Running.{part-length}
 use Rattle.parameter.proofs.Walking.{step-inv}

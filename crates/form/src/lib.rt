@@ -112,7 +112,7 @@ fn put_settled(tag: u16, value: &[u8], out: &mut [u8]) -> usize
     ensures { λ r. ⌜ record { answer = accepted r; buffer = now (out .exit) } ≡ deliver (mapped runOctets (settledParam builtIn (record { tag = tag; value = now (value .entry) }))) (now (out .entry)) ⌝ }
 {
     if is_address(tag) {
-        let Counted::Count(n) = parameter::frame(tag, 0, &mut out[4..]) else {
+        let Counted::Count(n) = address::rewrite::rewrite(tag, value, &mut out[4..]) else {
             return 0;
         };
         parameter::frame(tag, n, out);

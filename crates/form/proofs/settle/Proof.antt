@@ -1,32 +1,24 @@
 -- `form::settle` meets its contract: the header, the first pass, then the header and the second pass into the output.
 use mathlib.Core.Path.{_≡_, sym, ap, _∙_}
 use Prim.Native.Nat.{ℕ, _+_, _≤_, _<_}
-use mathlib.Core.List.{List}
 use native.Mathlib.Omega.{arith}
 use lib.ListN.{length, getD, length-take, length-drop}
 use Rattle.bcd.specs.declared.error.Counted.{Counted}
-use Rattle.bcd.specs.Outcome.{Outcome, accepted, mapped, most, deliver}
+use Rattle.bcd.specs.Outcome.{accepted, mapped, most}
 use Rattle.bcd.specs.Answers.{countedOf}
 use Rattle.bcd.specs.Digits.{builtIn}
 use Rattle.bcd.proofs.Outcomes.{deliver-too-long, deliver-passed-on, deliver-refused}
-use Rattle.parameter.specs.Parameter.{Param, runOctets, runLength}
+use Rattle.parameter.specs.Parameter.{runOctets, runLength}
 use Rattle.message.specs.declared.header.CommonHeader.{CommonHeader}
 use Rattle.message.specs.Message.{readHeader, headerReadOf}
 use Rattle.message.proofs.Listing.{header-within, message-done}
 use Rattle.form.specs.Form.{settled}
 use Rattle.form.specs.Passes.{settledRun}
-use Rattle.form.proofs.Passes.{settled-refused, length-run, Run, run-known}
+use Rattle.form.proofs.Passes.{settled-refused, length-run, run-known}
 use Rattle.form.proofs.Measuring.{run-small}
 use borrow.Author.Needs.{needs}
 use Rattle.form.proofs.settle.Statement.{statement}
 use Rattle.form.proofs.settle.Tie as tie
-use Rattle.form.proofs.settle.Reads as reads
-use Rattle.form.proofs.settle.Lts as lts
-use Rattle.form.proofs.measure.Reads as measure-reads
-use Rattle.form.proofs.write_params.Reads as write-params-reads
-use Rattle.message.proofs.header.CommonHeader.decode.Reads as decode-reads
-use Rattle.message.proofs.header.CommonHeader.encode.Reads as encode-reads
-use Rattle.message.proofs.header.CommonHeader.new.Reads as new-reads
 
 abbrev start : tie.After-known-told2 → tie.Start
 start c = c .before .before .before .before .before .before
@@ -102,9 +94,10 @@ write-params-requires : tie.Need-write-params-requires
 write-params-requires c κs =
     let e = c .before .before .before in
     let k = e .before .before .before .before in
-    let m = k .before .before .before in
-    (header-within (start (m .before) .args .input .now) _ (headed (m .before)),
-    (measured m _ (k .before .run .given .1), simp (length-take, length-drop) (omega arith)))
+    let m = k .before .before .before in (
+      header-within (start (m .before) .args .input .now) _ (headed (m .before)),
+      (measured m _ (k .before .run .given .1), simp (length-take, length-drop) (omega arith)),
+    )
 
 returns-2 : tie.Need-returns-2
 returns-2 c =

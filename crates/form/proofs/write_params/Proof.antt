@@ -1,16 +1,14 @@
 -- `form::write_params` meets its contract: the loop has written the first n parameters.
 use borrow.Author.Needs.{needs}
-use Prim.Native.Nat.{ℕ, _+_, _-_, _≤_, _<_}
+use Prim.Native.Nat.{ℕ, _-_, _<_}
 use mathlib.Core.Path.{_≡_, sym, ap, _∙_}
-use mathlib.Core.List.{List}
 use native.Mathlib.Omega.{arith}
-use lib.ListN.{length, getD, drop, length-take, length-drop}
+use lib.ListN.{length, getD}
 use Rattle.bcd.proofs.Outcomes.{bounded-within}
 use Rattle.parameter.specs.declared.Step.{Step}
 use Rattle.parameter.specs.Parameter.{Param, runOctets}
 use Rattle.parameter.specs.Walk.{found, stepAt, valued}
 use Rattle.parameter.specs.Answers.{stepOf}
-use Rattle.parameter.proofs.Walking.{step-inv}
 use borrow.Rule.Slice.PartMut.{midOf}
 use Rattle.bcd.specs.Outcome.{accepted, mapped, deliver}
 use Rattle.bcd.specs.Digits.{builtIn}
@@ -19,10 +17,6 @@ use Rattle.form.proofs.Passes.{valued-part}
 use Rattle.form.proofs.Written.{Known, known, Placed, placed-start, placed-more, placed-end, placed-never, placed-out, placed-all, Turn, turn, turn-asks, turn-size}
 use Rattle.form.proofs.write_params.Statement.{statement}
 use Rattle.form.proofs.write_params.Tie as tie
-use Rattle.form.proofs.write_params.Reads as reads
-use Rattle.form.proofs.write_params.Lts as lts
-use Rattle.form.proofs.put_settled.Reads as put-settled-reads
-use Rattle.parameter.proofs.Cursor.step.Reads as step-reads
 
 abbrev Inv-loop : tie.InvT-loop
 Inv-loop input run out₀ c₀ at₀ n₀ out c at n = Known input run × Placed input out₀ out n (c .at) at

@@ -77,7 +77,7 @@ read-digits : (xs : List ℕ) (count : ℕ) → length xs ≤ most → after (re
 unfolding readDigits
 read-digits xs count h = ap (λ (o : Outcome (List ℕ)). after o (writeDigits builtIn)) (bounded-within xs (accepted (digitsIn builtIn xs count)) h)
 
-whole-part : (a : ℕ) (v : List ℕ) → take (length v - a) (drop a v) ≡ drop a v
+pub whole-part : (a : ℕ) (v : List ℕ) → take (length v - a) (drop a v) ≡ drop a v
 whole-part a v = take-all (length v - a) (drop a v) (omega (arith, length-drop a v))
 
 pub read-part :

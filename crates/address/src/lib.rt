@@ -1,6 +1,7 @@
 // SUA addresses: routing indicator, global title, point code, subsystem number (address.rs; RFC 3868, 3.10.2).
 mod parts;
 pub mod rewrite;
+pub mod title;
 
 use bcd::error::Refusal;
 ghost use mathlib.Core.Path.{_≡_};

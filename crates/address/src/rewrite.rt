@@ -170,7 +170,8 @@ fn put_title(value: &[u8], out: &mut [u8]) -> usize
     requires { ⌜ Ready (subParam builtIn (title (titleAt builtIn (now value)))) (now out) ⌝ }
     ensures { λ r. ⌜ record { answer = accepted r; buffer = now (out .exit) } ≡ deliver (mapped runOctets (subParam builtIn (title (titleAt builtIn (now (value .entry)))))) (now (out .entry)) ⌝ }
 {
-    let digits = smaller(value[4] as usize, 2 * (value.len() - 8));
+    let count = value[4] as usize;
+    let digits = smaller(count, 2 * (value.len() - 8));
     let octets = (digits + 1) / 2;
     let end = 8 + octets;
     parameter::encode(tags::GLOBAL_TITLE, &value[..end], out);

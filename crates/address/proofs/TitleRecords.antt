@@ -1,19 +1,19 @@
 -- Titles read into records, and records written.
-use Prim.Native.Nat.{ℕ, _+_, _-_, _/_, _≤_, _<_}
+use Prim.Native.Nat.{ℕ, _+_, _-_, _≤_, _<_}
 use mathlib.Core.Path.{_≡_, refl, sym, ap, _∙_}
 use mathlib.Core.List.{List, [], _∷_, _++_}
 use native.Mathlib.Omega.{arith}
 use borrow.Author.Tests.{le-leb, lt-leb}
-use lib.ListN.{length, getD, take, drop, length-drop, length-append}
+use lib.ListN.{length, getD, take, drop, length-drop}
 use borrow.Rule.Slice.PartMut.{midOf, putMid}
 use Rattle.bcd.specs.Outcome.{Outcome, accepted, refused, after, mapped, most, Delivered, deliver}
 use Rattle.bcd.specs.Digits.{builtIn, digitsIn, readDigits, writeDigits}
-use Rattle.bcd.proofs.Outcomes.{accepted-inj, never, bounded-within, bounded-beyond, mapped-inv, mapped-mapped, deliver-refused, deliver-passed-on, deliver-too-long, deliver-buffer, deliver-answer, deliver-fits}
-use Rattle.bcd.proofs.Writing.{Begun, begin, extend, delivered}
+use Rattle.bcd.proofs.Outcomes.{accepted-inj, never, bounded-within, bounded-beyond, mapped-inv, deliver-refused, deliver-passed-on, deliver-too-long, deliver-buffer, deliver-fits}
+use Rattle.bcd.proofs.Writing.{begin, extend, delivered}
 use Rattle.bcd.proofs.Digits.{read-at-most}
 use Rattle.address.specs.Address.{titleIn, readTitle, titleOctets, writeTitle}
 use Rattle.address.specs.Records.{titleOf, titleGiven, titleRecord}
-use Rattle.address.specs.Titles.{TitleAnswer, zeros, titleRefused, titleAnswer}
+use Rattle.address.specs.Titles.{zeros, titleRefused, titleAnswer}
 use Rattle.address.specs.declared.GlobalTitle.{GlobalTitle}
 use Rattle.address.proofs.Planning.{whole-part}
 use Rattle.address.proofs.Copying.{lent-length}

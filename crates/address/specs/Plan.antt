@@ -5,7 +5,7 @@ use mathlib.Core.Path.{_≡_}
 use mathlib.Core.Bool.{true, false}
 use mathlib.Core.List.{List, [], _++_, map}
 use lib.ListN.{length, getD}
-use Rattle.bcd.specs.Outcome.{Outcome, accepted, refused, after, mapped, each, Octets, most}
+use Rattle.bcd.specs.Outcome.{Outcome, accepted, refused, after, each, Octets, most}
 use Rattle.bcd.specs.Answers.{refusalOf}
 use Rattle.bcd.specs.Digits.{builtIn}
 use Rattle.parameter.specs.Parameter.{Param, two, twoAt, runOctets, runLength, mostValue}

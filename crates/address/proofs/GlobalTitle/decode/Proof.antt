@@ -1,9 +1,8 @@
 -- `address::GlobalTitle::decode` meets its contract.
 use borrow.Author.Needs.{needs}
-use mathlib.Core.Path.{_≡_, sym, ap, _∙_}
+use mathlib.Core.Path.{sym, ap, _∙_}
 use native.Mathlib.Omega.{arith}
-use Prim.Native.Nat.{ℕ}
-use Rattle.bcd.specs.Outcome.{Outcome, Delivered, accepted, deliver}
+use Rattle.bcd.specs.Outcome.{Delivered, accepted}
 use Rattle.bcd.specs.Answers.{countedOf}
 use Rattle.bcd.specs.declared.error.Counted.{Counted}
 use Rattle.address.specs.Titles.{TitleAnswer}

@@ -1,11 +1,11 @@
 -- `address::rewrite::measure` meets its contract.
 use borrow.Author.Needs.{needs}
-use Prim.Native.Nat.{ℕ, _+_, _≤_}
+use Prim.Native.Nat.{ℕ, _≤_}
 use mathlib.Core.Bool.{Bool, true, false}
 use mathlib.Core.List.{List}
 use mathlib.Core.Path.{_≡_, sym, ap, _∙_}
 use native.Mathlib.Omega.{arith}
-use Rattle.bcd.specs.Outcome.{Outcome, refused, pick, mapped, each, most}
+use Rattle.bcd.specs.Outcome.{refused, pick, mapped, each, most}
 use Rattle.bcd.specs.Answers.{countedOf}
 use Rattle.bcd.specs.Digits.{builtIn}
 use Rattle.bcd.specs.declared.error.Counted.{Counted}

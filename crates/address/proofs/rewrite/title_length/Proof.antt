@@ -1,6 +1,6 @@
 -- `address::rewrite::title_length` meets its contract.
 use borrow.Author.Needs.{needs}
-use mathlib.Core.Path.{refl, sym, ap, _∙_}
+use mathlib.Core.Path.{ap, _∙_}
 use native.Mathlib.Omega.{arith}
 use Rattle.bcd.specs.Outcome.{mapped}
 use Rattle.bcd.specs.Digits.{builtIn}

@@ -16,8 +16,8 @@ use Rattle.address.specs.Address.{subParam, readAddress, writeAddress}
 use Rattle.address.specs.Parts.{nothing, noteAll, otherPlaces, keptPieces}
 use Rattle.address.specs.declared.parts.Kept.{Kept}
 use Rattle.address.specs.declared.parts.Parts.{Parts}
-use Rattle.address.specs.declared.rewrite.Planned.{Planned}
-use Rattle.address.specs.declared.rewrite.Planned.the-variants as P
+use Rattle.address.specs.declared.interpret.Planned.{Planned}
+use Rattle.address.specs.declared.interpret.Planned.the-variants as P
 
 -- A sub-parameter that is kept lies inside the value, and has so many octets or more.
 abbrev pub HeldIn : List ℕ → (least : ℕ) → Kept → Type 0

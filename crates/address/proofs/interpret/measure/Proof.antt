@@ -1,4 +1,4 @@
--- `address::rewrite::measure` meets its contract.
+-- `address::interpret::measure` meets its contract.
 use borrow.Author.Needs.{needs}
 use Prim.Native.Nat.{ℕ, _≤_}
 use mathlib.Core.Bool.{Bool, true, false}
@@ -14,8 +14,8 @@ use Rattle.address.specs.Address.{title, present, subParam}
 use Rattle.address.specs.Parts.{keptTitle}
 use Rattle.address.proofs.Planning.{sound, others-small, kept-small, mapped-refused}
 use Rattle.address.proofs.Plans.{plan-short, plan-unknown, plan-long, plan-made}
-use Rattle.address.proofs.rewrite.measure.Statement.{statement}
-use Rattle.address.proofs.rewrite.measure.Tie as tie
+use Rattle.address.proofs.interpret.measure.Statement.{statement}
+use Rattle.address.proofs.interpret.measure.Tie as tie
 
 -- the title's answer
 answered : (c : tie.After-title-length) (r : Counted) → c .title-length .result ≡ r

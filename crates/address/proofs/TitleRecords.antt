@@ -5,15 +5,19 @@ use mathlib.Core.List.{List, [], _∷_, _++_}
 use native.Mathlib.Omega.{arith}
 use borrow.Author.Tests.{le-leb, lt-leb}
 use lib.ListN.{length, getD, take, drop, length-drop}
+use lib.Seq.{take-append-seam}
 use borrow.Rule.Slice.PartMut.{midOf, putMid}
 use Rattle.bcd.specs.Outcome.{Outcome, accepted, refused, after, mapped, most, Delivered, deliver}
 use Rattle.bcd.specs.Digits.{builtIn, digitsIn, readDigits, writeDigits}
 use Rattle.bcd.proofs.Outcomes.{accepted-inj, never, bounded-within, bounded-beyond, mapped-inv, deliver-refused, deliver-passed-on, deliver-too-long, deliver-buffer, deliver-fits}
 use Rattle.bcd.proofs.Writing.{begin, extend, delivered}
 use Rattle.bcd.proofs.Digits.{read-at-most}
-use Rattle.address.specs.Address.{titleIn, readTitle, titleOctets, writeTitle}
+use Rattle.bcd.proofs.Distinct.{refusals-distinct}
+use Rattle.address.specs.Address.{Title, titleIn, readTitle, titleOctets, writeTitle}
 use Rattle.address.specs.Records.{titleOf, titleGiven, titleRecord}
-use Rattle.address.specs.Titles.{zeros, titleRefused, titleAnswer}
+use Rattle.address.specs.Titles.{verdictOf, zeros, recordOf, titleRefused, titleAnswer}
+use Rattle.address.specs.declared.title.Verdict.{Verdict}
+use Rattle.address.specs.declared.title.Verdict.the-variants as D
 use Rattle.address.specs.declared.GlobalTitle.{GlobalTitle}
 use Rattle.address.proofs.Planning.{whole-part}
 use Rattle.address.proofs.Copying.{lent-length}
@@ -109,3 +113,14 @@ module _ (g : GlobalTitle) (out : List ℕ) where
         delivered (8 + n) x (omega arith)
         ∙ ap (λ w. deliver (accepted w) out) same
         ∙ ap (λ (o : Outcome (List ℕ)). deliver o out) (sym (given ∙ ap (mapped (titleOctets (titleOf g))) w))
+
+-- The record of a title stands for that title.
+pub record-back : (t : Title) → titleOf (recordOf t) ≡ t
+record-back t = ap (λ ds. record { gti = t .gti; tt = t .tt; np = t .np; noa = t .noa; digits = ds }) (take-append-seam (t .digits) (drop (length (t .digits)) zeros))
+
+-- Distinct verdicts have distinct outcomes.
+pub verdict-distinct : (r s : Verdict) → verdictOf r ≡ verdictOf s → r ≡ s
+verdict-distinct D.Done D.Done e = refl
+verdict-distinct D.Done (D.Refused s) e = absurd (never (sym e))
+verdict-distinct (D.Refused r) D.Done e = absurd (never e)
+verdict-distinct (D.Refused r) (D.Refused s) e = ap D.Refused (refusals-distinct r s e)

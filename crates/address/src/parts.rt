@@ -40,6 +40,14 @@ fn keep(place: Place) -> Kept
     Kept { there: true, place }
 }
 
+// Of two of a kind the last one holds: this one, whatever was kept.
+fn later(kept: Kept, place: Place) -> Kept
+    ensures { λ r. ⌜ r ≡ keptPlace place ⌝ }
+{
+    let _ = kept;
+    keep(place)
+}
+
 // The first of two sub-parameters that is too short: the one kept, or this one if its value has under `least` octets.
 fn first_short(kept: Kept, place: Place, least: usize) -> Kept
     ensures { λ r. ⌜ r ≡ sooner kept place least ⌝ }
@@ -93,7 +101,7 @@ impl Parts {
         if tag == tags::GLOBAL_TITLE {
             return Parts {
                 short: first_short(short, place, 8),
-                title: keep(place),
+                title: later(title, place),
                 code,
                 ssn,
                 other_count,
@@ -104,7 +112,7 @@ impl Parts {
             return Parts {
                 short: first_short(short, place, 4),
                 title,
-                code: keep(place),
+                code: later(code, place),
                 ssn,
                 other_count,
                 other_length,
@@ -115,7 +123,7 @@ impl Parts {
                 short: first_short(short, place, 4),
                 title,
                 code,
-                ssn: keep(place),
+                ssn: later(ssn, place),
                 other_count,
                 other_length,
             };

@@ -40,14 +40,6 @@ fn keep(place: Place) -> Kept
     Kept { there: true, place }
 }
 
-// Of two of a kind the last one holds: this one, whatever was kept.
-fn later(kept: Kept, place: Place) -> Kept
-    ensures { λ r. ⌜ r ≡ keptPlace place ⌝ }
-{
-    let _ = kept;
-    keep(place)
-}
-
 // The first of two sub-parameters that is too short: the one kept, or this one if its value has under `least` octets.
 fn first_short(kept: Kept, place: Place, least: usize) -> Kept
     ensures { λ r. ⌜ r ≡ sooner kept place least ⌝ }
@@ -101,7 +93,7 @@ impl Parts {
         if tag == tags::GLOBAL_TITLE {
             return Parts {
                 short: first_short(short, place, 8),
-                title: later(title, place),
+                title: keep(place),
                 code,
                 ssn,
                 other_count,
@@ -112,7 +104,7 @@ impl Parts {
             return Parts {
                 short: first_short(short, place, 4),
                 title,
-                code: later(code, place),
+                code: keep(place),
                 ssn,
                 other_count,
                 other_length,
@@ -123,7 +115,7 @@ impl Parts {
                 short: first_short(short, place, 4),
                 title,
                 code,
-                ssn: later(ssn, place),
+                ssn: keep(place),
                 other_count,
                 other_length,
             };

@@ -11,36 +11,36 @@ use Rattle.address.proofs.parts.Parts.note.Tie as tie
 first-short-requires : tie.Need-first-short-requires
 first-short-requires c κs = search needs
 
-later-requires : tie.Need-later-requires
-later-requires c κs = search needs
+keep-requires : tie.Need-keep-requires
+keep-requires c κs = search needs
 
 returns : tie.Need-returns
 unfolding noted
-returns c = let t = c .before .before in rw (c .before .first-short .ensures, c .later .ensures, eq-eqb _ _ (t .if1 .taken))
+returns c = let t = c .before .before in rw (c .before .first-short .ensures, c .keep .ensures, eq-eqb _ _ (t .if1 .taken))
 
 first-short-requires-2 : tie.Need-first-short-requires-2
 first-short-requires-2 c κs = search needs
 
-later-requires-2 : tie.Need-later-requires-2
-later-requires-2 c κs = search needs
+keep-requires-2 : tie.Need-keep-requires-2
+keep-requires-2 c κs = search needs
 
 returns-2 : tie.Need-returns-2
 unfolding noted
 returns-2 c =
     let t = c .before .before in
-    rw (c .before .first-short2 .ensures, c .later2 .ensures, ne-eqb _ _ (t .before .if1 .left), eq-eqb _ _ (t .if2 .taken))
+    rw (c .before .first-short2 .ensures, c .keep2 .ensures, ne-eqb _ _ (t .before .if1 .left), eq-eqb _ _ (t .if2 .taken))
 
 first-short-requires-3 : tie.Need-first-short-requires-3
 first-short-requires-3 c κs = search needs
 
-later-requires-3 : tie.Need-later-requires-3
-later-requires-3 c κs = search needs
+keep-requires-3 : tie.Need-keep-requires-3
+keep-requires-3 c κs = search needs
 
 returns-3 : tie.Need-returns-3
 unfolding noted
 returns-3 c =
     let t = c .before .before in
-    rw (c .before .first-short3 .ensures, c .later3 .ensures, ne-eqb _ _ (t .before .before .if1 .left), ne-eqb _ _ (t .before .if2 .left), eq-eqb _ _ (t .if3 .taken))
+    rw (c .before .first-short3 .ensures, c .keep3 .ensures, ne-eqb _ _ (t .before .before .if1 .left), ne-eqb _ _ (t .before .if2 .left), eq-eqb _ _ (t .if3 .taken))
 
 add-t18 : tie.Need-add-t18
 add-t18 c = search needs
@@ -66,13 +66,13 @@ note-spec =
     tie.close
     (tie.spec
     first-short-requires
-    later-requires
+    keep-requires
     returns
     first-short-requires-2
-    later-requires-2
+    keep-requires-2
     returns-2
     first-short-requires-3
-    later-requires-3
+    keep-requires-3
     returns-3
     add-t18
     add-t19

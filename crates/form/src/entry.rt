@@ -1,5 +1,6 @@
 // The entries for other languages, on slices of octets and numbers (include/sua.h).
 use crate::flat;
+use crate::settle;
 use bcd::error::Counted;
 use bcd::error::Refusal;
 ghost use mathlib.Core.Path.{_≡_};
@@ -8,6 +9,8 @@ ghost use mathlib.Core.List.{List};
 ghost use lib.ListN.{getD};
 ghost use Rattle.bcd.specs.Outcome.{deliver};
 ghost use Rattle.bcd.specs.Answers.{countedOf, refusalOf};
+ghost use Rattle.bcd.specs.Digits.{builtIn};
+ghost use Rattle.form.specs.Form.{settled};
 ghost use Rattle.form.specs.Entry.{numbers, reported, Entered, entered, encodeFlat};
 
 // A refusal's number and values.
@@ -67,6 +70,14 @@ fn store(answer: Counted, report: &mut [u64]) -> u64
         i += 1;
     }
     list[0]
+}
+
+// Writes the settled form of a message. Reading's refusals, then each address's, 9, 10 in wire order, then 14.
+#[no_mangle]
+pub extern "C" fn sua_settle(input: &[u8], out: &mut [u8], report: &mut [u64]) -> u64
+    ensures { λ r. ⌜ record { number = r; buffer = now (out .exit); report = now (report .exit) } ≡ entered (deliver (settled builtIn (now (input .entry))) (now (out .entry))) (now (report .entry)) ⌝ }
+{
+    store(settle(input, out), report)
 }
 
 // Writes the message of a class, a type and a flat list of parameters. 4, 15, 10 in order, 12, 14.

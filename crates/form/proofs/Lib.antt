@@ -8,4 +8,8 @@ pub mod Passes
 pub mod Measuring
 pub mod Placing
 pub mod Written
+pub mod Reports
+pub mod FlatList
+pub mod Summing
+pub mod FlatWriting
 pub mod Worked

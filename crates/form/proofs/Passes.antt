@@ -60,7 +60,7 @@ module _ (A : Alphabet) (xs : List ℕ) where
       go (refused n vs) = refl
 
 -- one element more
-each-last : {A B : Type 0} (f : A → Outcome (List B)) (xs : List A) (y : A) → each f (xs ++ (y ∷ [])) ≡ after (each f xs) (λ us. mapped (λ vs. us ++ vs) (f y))
+pub each-last : {A B : Type 0} (f : A → Outcome (List B)) (xs : List A) (y : A) → each f (xs ++ (y ∷ [])) ≡ after (each f xs) (λ us. mapped (λ vs. us ++ vs) (f y))
 each-last {A} {B} f [] y = go (f y)
   where
     go : (o : Outcome (List B)) → after o (λ ys. mapped (λ zs. ys ++ zs) (accepted [])) ≡ mapped (λ vs. [] ++ vs) o

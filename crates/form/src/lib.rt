@@ -1,4 +1,7 @@
 // The settled form of a message: octets that depend on its meaning and on nothing else.
+pub mod entry;
+pub mod flat;
+
 use bcd::error::Counted;
 use bcd::error::Refusal;
 use message::header::CommonHeader;

@@ -1,0 +1,59 @@
+/*
+ * The entries of the SUA codec (crates/form/src/entry.rt) for C. `rt staticlib form` writes the library.
+ *
+ * A lent slice is a pointer and the number of its elements. The pointer is never null, and slices of one call do not
+ * overlap. Each entry is defined for every contents and every length of its slices.
+ *
+ * Every entry answers 0 where the input was accepted, else the refusal's number, and stores four numbers in the report,
+ * as many of them as it has places:
+ *
+ *     accepted    0, octets written, 0, 0
+ *     refused     number, and its values with zeros behind them
+ *
+ *      1  too short (expected, actual)             9  no digit (octet)
+ *      2  version (octet)                         10  value above 65,531 octets (tag, length)
+ *      4  unknown pair (class, type)              12  over 1,048,576 octets (length)
+ *      5  parameter length below 4 (tag, length)  14  output too small (length needed)
+ *      6  parameter beyond the octets, or point   15  a record of the list is not finished
+ *         code or SSN too short (tag, expected,
+ *         actual)
+ *      8  routing indicator above 4 (indicator)
+ *
+ * A refusal leaves the output as it was; nothing is written past the octets that are answered.
+ */
+#ifndef SUA_H
+#define SUA_H
+
+#include <stddef.h>
+#include <stdint.h>
+
+#ifdef __cplusplus
+extern "C" {
+#endif
+
+/*
+ * The settled form of a message: it is read, the value of every source and destination address is read and written
+ * again, and the message is encoded. Refusals in order: 12, 1, 2, 4, 5 or 6 in wire order; then for each address in wire
+ * order 1, 8, 5 or 6 of its walk, each sub-parameter's 1 or 6, 9, 10; then 14.
+ */
+uint64_t sua_settle(const uint8_t *input, size_t input_len,
+                    uint8_t *out, size_t out_len,
+                    uint64_t *report, size_t report_len);
+
+/*
+ * The message of a class, a type and a list of parameters. The list is flat, numbers have their high octet first:
+ *
+ *     for each parameter   tag (2 octets), length of the value (4), value
+ *
+ * Refusals in order: 4, 15, 10 in order, 12, 14.
+ */
+uint64_t sua_encode(uint8_t message_class, uint8_t message_type,
+                    const uint8_t *list, size_t list_len,
+                    uint8_t *out, size_t out_len,
+                    uint64_t *report, size_t report_len);
+
+#ifdef __cplusplus
+}
+#endif
+
+#endif

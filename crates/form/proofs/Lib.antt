@@ -9,3 +9,5 @@ pub mod Measuring
 pub mod Placing
 pub mod Written
 pub mod Worked
+pub mod Lines
+pub mod Printing

@@ -1,4 +1,6 @@
 // The settled form of a message: octets that depend on its meaning and on nothing else.
+pub mod line;
+
 use bcd::error::Counted;
 use bcd::error::Refusal;
 use message::header::CommonHeader;

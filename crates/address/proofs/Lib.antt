@@ -9,3 +9,7 @@ pub mod Keeping
 pub mod Interpreting
 pub mod Planning
 pub mod Plans
+pub mod Putting
+pub mod Titling
+pub mod Copying
+pub mod Delivering

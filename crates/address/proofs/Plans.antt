@@ -89,7 +89,7 @@ module _ {v : List ℕ} {s : Parts} (k : Walked v s) (tag : ℕ) where
         ∙ subs-write builtIn builtIn-lawful tag v address (k .octets) read qs (ap (each (subParam builtIn)) pieces-known ∙ e)
         ∙ ap (λ (b : ℕ). sized tag (two (twoAt v 0) ++ two b ++ runOctets qs)) (indicator-bits (twoAt v 0) (getD v 3 0) (map (pieceAt builtIn v) (k .places)))
 
-wire-length : (v : List ℕ) (qs : List Param) → length (wireOf v qs) ≡ 4 + runLength qs
+pub wire-length : (v : List ℕ) (qs : List Param) → length (wireOf v qs) ≡ 4 + runLength qs
 wire-length v qs = omega (arith, run-length qs)
 
 -- The sum of the parts' lengths is that of the octets.

@@ -3,16 +3,17 @@
 use Prim.Native.Nat.{ℕ, _+_, _%_, _≤_}
 use mathlib.Core.Path.{_≡_}
 use mathlib.Core.Bool.{true, false}
-use mathlib.Core.List.{List, _++_}
+use mathlib.Core.List.{List, [], _++_, map}
 use lib.ListN.{length, getD}
-use Rattle.bcd.specs.Outcome.{Outcome, accepted, after, mapped, each, Octets, most}
+use Rattle.bcd.specs.Outcome.{Outcome, accepted, refused, after, mapped, each, Octets, most}
 use Rattle.bcd.specs.Answers.{refusalOf}
 use Rattle.bcd.specs.Digits.{builtIn}
 use Rattle.parameter.specs.Parameter.{Param, two, twoAt, runOctets, runLength, mostValue}
 use Rattle.parameter.specs.Walk
+use Rattle.parameter.specs.Walk.{valued}
 use Rattle.parameter.specs.declared.Place.{Place}
 use Rattle.address.specs.Address.{subParam, readAddress, writeAddress}
-use Rattle.address.specs.Parts.{nothing, noteAll, keptPieces}
+use Rattle.address.specs.Parts.{nothing, noteAll, otherPlaces, keptPieces}
 use Rattle.address.specs.declared.parts.Kept.{Kept}
 use Rattle.address.specs.declared.parts.Parts.{Parts}
 use Rattle.address.specs.declared.rewrite.Planned.{Planned}
@@ -57,3 +58,11 @@ pub record Plan (v : List ℕ) (s : Parts) (total : ℕ) : Type 0 where
 abbrev pub PlanOf : (tag : ℕ) → List ℕ → Planned → Type 0
 PlanOf tag v (P.Plan s total) = Plan v s total
 PlanOf tag v (P.Refused r) = after (readAddress builtIn v) (writeAddress builtIn tag) ≡ refusalOf r
+
+-- The octets of the others.
+abbrev pub placesIn : Outcome (List Place) → List Place
+placesIn (accepted ps) = ps
+placesIn (refused n vs) = []
+
+unfoldable pub othersOctets : List ℕ → List ℕ
+othersOctets v = runOctets (map (valued v) (otherPlaces (placesIn (Walk.places v 4))))

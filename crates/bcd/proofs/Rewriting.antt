@@ -1,19 +1,20 @@
 -- Digits that are read and written again: each half octet but 15 is written as it was read.
 use Prim.Native.Nat.{ℕ, zero, suc, _+_, _*_, _/_, _%_, _≤_, _<_, min}
-use mathlib.Core.Path.{_≡_, refl, sym, ap, _∙_}
+use mathlib.Core.Path.{_≡_, refl, sym, ap, ap₂, _∙_}
 use mathlib.Core.Logic.{⊎-elim}
-use mathlib.Core.List.{List, [], _∷_, map}
+use mathlib.Core.Option.{Option·getD}
+use mathlib.Core.List.{List, [], _∷_, _++_, map}
 use native.Mathlib.Omega.{arith}
 use lib.Dec.{lit<}
 use lib.ListN.{length, getD, take, length-take, length-map, List·getD-eq-default}
 use lib.Seq.{getD-take}
-use Rattle.bcd.specs.Outcome.{Outcome, accepted, refused, after, mapped, All, most, bounded}
-use Rattle.bcd.specs.Digits.{halves, pack, characters, builtIn, digitsIn, readDigits, writeDigits}
-use Rattle.bcd.proofs.Outcomes.{le-or-lt, bounded-within, bounded-beyond}
+use Rattle.bcd.specs.Outcome.{Outcome, accepted, refused, after, mapped, All, most}
+use Rattle.bcd.specs.Digits.{halves, pack, characters, nibble, builtIn, digitsIn, readDigits, writeDigits}
+use Rattle.bcd.proofs.Outcomes.{accepted-inj, le-or-lt, bounded-within, bounded-beyond}
 use Rattle.bcd.proofs.Halves.{halves-length, halves-low, halves-high, pack-length}
-use Rattle.bcd.proofs.Characters.{builtIn-written, builtIn-distinct}
-use Rattle.bcd.proofs.Writable.{nibbles, some-bad, all-good}
-use Rattle.bcd.proofs.Reading.{digits-length, digits-most}
+use Rattle.bcd.proofs.Characters.{builtIn-lawful, builtIn-written, builtIn-distinct}
+use Rattle.bcd.proofs.Writable.{nibbles, some-bad, all-good, write-inv}
+use Rattle.bcd.proofs.Reading.{digits-most}
 use Rattle.bcd.proofs.Digits.{Back, nibbles-back}
 
 -- a half octet below 15 is written as it was read; any other number reads as ?
@@ -84,3 +85,37 @@ rewrite-within xs count n h e =
 
 pub halves-packed : (xs : List ℕ) (n : ℕ) → n ≤ 2 * length xs → length (pack (take n (halves xs))) ≡ (n + 1) / 2
 halves-packed xs n h = pack-length (take n (halves xs)) ∙ ap (λ (k : ℕ). (k + 1) / 2) (rw (length-take n (halves xs), halves-length xs) (omega arith))
+
+-- Digits that were read and can be written are written as the half octets that were read ..
+pub rewritten-octets : (xs : List ℕ) (n : ℕ) (os : List ℕ) → writeDigits builtIn (digitsIn builtIn xs n) ≡ accepted os → os ≡ pack (take n (halves xs))
+unfolding digitsIn
+rewritten-octets xs n os e =
+    let hs = take n (halves xs) in
+    let g = write-inv builtIn builtIn-lawful (map (builtIn .char) hs) (length os) (sym (ap (mapped length) e)) in
+    accepted-inj (sym e ∙ g .octets ∙ ap (λ l. accepted (pack l)) (same hs (g .digits)))
+  where
+    same : (hs : List ℕ) → All (λ (c : ℕ). nibble builtIn c ≤ 15) (map (builtIn .char) hs) → map (nibble builtIn) (map (builtIn .char) hs) ≡ hs
+    same [] d = refl
+    same (h ∷ hs) d =
+        let low : h < 15 =
+        ⊎-elim (λ l. let z : 16 ≤ 15 = rw (ap (nibble builtIn) (question h l)) at (d .0) in absurd (omega arith)) (λ l. l) (le-or-lt 15 h) in
+        ap₂ _∷_ (ap (λ o. Option·getD o 16) (back h low)) (same hs (d .1))
+
+-- .. which are the octets themselves, but for an odd last high half.
+pub octets-even : (m : ℕ) (xs : List ℕ) → m ≤ length xs → pack (take (2 * m) (halves xs)) ≡ take m xs
+unfolding pack halves
+octets-even zero xs h = refl
+octets-even (suc m) [] h = absurd (omega arith)
+octets-even (suc m) (x ∷ xs) h =
+    let e : 2 * suc m ≡ suc (suc (2 * m)) = omega arith in
+    let same : x / 16 * 16 + x % 16 ≡ x = omega arith in
+    rw (e, same, octets-even m xs (omega arith))
+
+pub octets-odd : (m : ℕ) (xs : List ℕ) → m < length xs → pack (take (2 * m + 1) (halves xs)) ≡ take m xs ++ (getD xs m 0 % 16 ∷ [])
+unfolding pack halves
+octets-odd m [] h = absurd (omega arith)
+octets-odd zero (x ∷ xs) h = refl
+octets-odd (suc m) (x ∷ xs) h =
+    let e : 2 * suc m + 1 ≡ suc (suc (2 * m + 1)) = omega arith in
+    let same : x / 16 * 16 + x % 16 ≡ x = omega arith in
+    rw (e, same, octets-odd m xs (omega arith))

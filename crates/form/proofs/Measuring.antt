@@ -1,15 +1,15 @@
 -- How far the first pass has come: the places walked, and the sum of what their parameters take, or the first refusal.
-use Prim.Native.Nat.{ℕ, _+_, _-_, _*_, _≤_, _<_}
+use Prim.Native.Nat.{ℕ, _+_, _*_, _≤_, _<_}
 use mathlib.Core.Path.{_≡_, refl, sym, ap, _∙_}
-use mathlib.Core.List.{List, [], _∷_, _++_}
+use mathlib.Core.List.{List}
 use native.Mathlib.Omega.{arith}
 use lib.ListN.{length, getD}
 use Rattle.bcd.specs.Outcome.{Outcome, accepted, refused, after, mapped, most}
 use Rattle.bcd.specs.Digits.{builtIn}
 use Rattle.parameter.specs.declared.Place.{Place}
 use Rattle.parameter.specs.Parameter.{twoAt, mostValue, runLength}
-use Rattle.parameter.specs.Walk.{ended, found, stepAt, places, valued}
-use Rattle.parameter.proofs.Walking.{Found, step-inv}
+use Rattle.parameter.specs.Walk.{ended, found, stepAt, valued}
+use Rattle.parameter.proofs.Walking.{step-inv}
 use Rattle.parameter.proofs.Reaching.{Reached, reached-start, reached-out, reached-next, reached-end, reached-refused}
 use Rattle.bcd.proofs.Outcomes.{mapped-inv, octets-of}
 use Rattle.message.specs.declared.header.CommonHeader.{CommonHeader}

@@ -1,5 +1,5 @@
 -- Settling as the code goes: the header, then the walk, and each parameter's part of the form in turn.
-use Prim.Native.Nat.{ℕ, _+_, _-_, _*_, _≤_, _<_}
+use Prim.Native.Nat.{ℕ, _+_, _-_, _≤_}
 use mathlib.Core.Path.{_≡_, refl, sym, ap, _∙_, subst}
 use mathlib.Core.Bool.{Bool, true, false}
 use mathlib.Core.List.{List, [], _∷_, _++_, map, map-append, append-nil, append-assoc}
@@ -7,9 +7,9 @@ use native.Mathlib.Omega.{arith}
 use lib.Dec.{leb}
 use lib.ListN.{length, take, drop, length-take, length-drop}
 use borrow.Author.Tests.{leb-true}
-use Rattle.bcd.specs.Outcome.{Outcome, accepted, refused, pick, after, demand, mapped, each, most}
+use Rattle.bcd.specs.Outcome.{Outcome, accepted, refused, after, mapped, each}
 use Rattle.bcd.specs.Digits.{Alphabet, builtIn}
-use Rattle.bcd.proofs.Outcomes.{accepted-inj, never, after-inv, mapped-inv, mapped-mapped, demand-inv, bounded-within, each-inv, each-cons}
+use Rattle.bcd.proofs.Outcomes.{accepted-inj, never, after-inv, mapped-inv, mapped-mapped, demand-inv, bounded-within}
 use Rattle.parameter.specs.declared.Place.{Place}
 use Rattle.parameter.specs.Parameter.{Param, two, paddedLength, mostValue, paramOctets, runOctets, runLength, encodeParam, wireLength}
 use Rattle.parameter.specs.Walk.{places, valued, parameters}
@@ -21,6 +21,7 @@ use Rattle.address.specs.Address.{addressIn, readAddress, writeAddress, rewrite
 use Rattle.message.specs.declared.header.CommonHeader.{CommonHeader}
 use Rattle.message.specs.Message.{Message, readHeader, readMessage, messageOctets}
 use Rattle.message.proofs.Messages.{message-length}
+use Rattle.message.proofs.Listing.{framed}
 use Rattle.form.specs.Form.{isAddress, settledParam, settled}
 use Rattle.form.specs.Passes.{settledRun, sumOf}
 
@@ -193,3 +194,21 @@ pub added : (p q : Param) (total : ℕ) (r : Outcome ℕ) → p ≡ q → r ≡ 
 added p q total r same e =
     ap (mapped (λ n. total + n)) (e ∙ ap (λ (p : Param). mapped runLength (settledParam builtIn p)) same)
     ∙ mapped-mapped (λ n. total + n) runLength (settledParam builtIn q)
+
+-- a form whose parameters are known
+pub record Run (A : Alphabet) (xs : List ℕ) (h : CommonHeader) (run : ℕ) : Type 0 where
+  pub octets : List ℕ
+  pub written : mapped runOctets (settledRun A xs) ≡ accepted octets
+  pub whole : settled A xs ≡ accepted (framed (h .«message_type») octets)
+  pub size : run ≡ length octets
+
+pub run-known : (A : Alphabet) (xs : List ℕ) (h : CommonHeader) (run : ℕ) → readHeader xs ≡ accepted h → accepted run ≡ mapped runLength (settledRun A xs) → Run A xs h run
+unfolding messageOctets
+run-known A xs h run e k =
+    let (qs, q, l) = mapped-inv runLength (settledRun A xs) (sym k) in
+    record {
+      octets = runOctets qs;
+      written = ap (mapped runOctets) q;
+      whole = settled-run A xs h e ∙ ap (mapped (messageOctets (h .«message_type»))) q;
+      size = sym l ∙ sym (run-length qs);
+    }

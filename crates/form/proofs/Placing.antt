@@ -1,27 +1,23 @@
 -- How far the second pass has come: the parameters written, and the octets in front of the buffer.
-use Prim.Native.Nat.{ℕ, _+_, _-_, _*_, _≤_, _<_}
-use mathlib.Core.Path.{_≡_, refl, sym, ap, ap₂, _∙_, subst}
-use mathlib.Core.Bool.{Bool, true, false}
-use mathlib.Core.List.{List, [], _∷_, _++_, map, map-append, append-nil, append-assoc}
+use Prim.Native.Nat.{ℕ, _+_, _-_, _*_, _/_, _≤_}
+use mathlib.Core.Path.{_≡_, refl, sym, ap, _∙_}
+use mathlib.Core.Bool.{true, false}
+use mathlib.Core.List.{List, [], _∷_, _++_, append-assoc}
 use native.Mathlib.Omega.{arith}
 use lib.ListN.{length, take, drop, length-append, length-take, length-drop, take-append-drop}
 use lib.Seq.{take-at, drop-at, drop-append-add, drop-drop, length-take-le}
 use borrow.Rule.Slice.PartMut.{midOf, putMid}
-use Rattle.bcd.specs.Outcome.{Outcome, accepted, refused, after, mapped, each, deliver, Delivered}
+use Rattle.bcd.specs.Outcome.{Outcome, accepted, after, mapped, deliver}
 use Rattle.bcd.specs.Digits.{builtIn}
-use Rattle.bcd.proofs.Outcomes.{accepted-inj, never, mapped-inv, each-inv, each-split, each-append, each-cons, deliver-buffer, deliver-answer, deliver-fits}
-use Rattle.bcd.proofs.Writing.{Begun, begin, untouched, extend, delivered}
-use Rattle.parameter.specs.declared.Place.{Place}
+use Rattle.bcd.proofs.Outcomes.{accepted-inj, mapped-inv, deliver-buffer, deliver-answer}
+use Rattle.bcd.proofs.Writing.{Begun, begin, extend, delivered}
 use Rattle.parameter.specs.Parameter.{Param, paddedLength, mostValue, paramOctets, runOctets, runLength, frameParam, encodeParam}
-use Rattle.parameter.specs.Walk.{ended, found, stepAt, places, valued}
-use Rattle.parameter.proofs.RoundTrip.{octets-length, run-length, run-length-append, run-octets-append}
+use Rattle.parameter.proofs.RoundTrip.{octets-length}
 use Rattle.parameter.proofs.Encoding.{frame-known, encode-within}
-use Rattle.parameter.proofs.Walking.{step-inv}
-use Rattle.parameter.proofs.Reaching.{Reached, reached-start, reached-out, reached-next, reached-end, reached-refused}
-use Rattle.address.specs.Address.{rewriteAddress}
+use Rattle.address.specs.Address.{readAddress, writeAddress, rewriteAddress}
 use Rattle.form.specs.Form.{isAddress, settledParam}
-use Rattle.form.specs.Passes.{settledRun, Placeable}
-use Rattle.form.proofs.Passes.{settled-address, settled-raw, one-length, one-octets, rewrite-small, run-walked, run-refused}
+use Rattle.form.specs.Passes.{Placeable}
+use Rattle.form.proofs.Passes.{settled-address, settled-raw, one-length, one-octets, rewrite-read, rewrite-small}
 
 -- A parameter that is not an address is written as it is.
 pub raw-placed :
@@ -112,3 +108,33 @@ placeable-raw tag v room t p =
     let same : record { tag = tag; value = v } ∷ [] ≡ p .params = accepted-inj (sym (settled-raw tag v t) ∙ p .settles) in
     let l : runLength (record { tag = tag; value = v } ∷ []) ≤ room = rw same (p .fits) in
     rw (one-length (record { tag = tag; value = v })) at l
+
+-- what writing an address again at the fifth octet tells
+pub rewritten-there :
+    (tag : ℕ) (v w out last : List ℕ) (a : Outcome ℕ)
+    → length v ≤ mostValue
+    → rewriteAddress builtIn tag v ≡ accepted w
+    → paddedLength (length w) ≤ length out
+    → record { answer = a; buffer = last } ≡ deliver (after (readAddress builtIn v) (writeAddress builtIn tag)) (midOf 4 (length out - 4) out)
+    → (a ≡ accepted (length w)) × (last ≡ w ++ drop (length w) (midOf 4 (length out - 4) out))
+rewritten-there tag v w out last a h hw room k =
+    let lent : length (midOf 4 (length out - 4) out) ≡ length out - 4 = rw (length-take (length out - 4) (drop 4 out), length-drop 4 out) (omega arith) in
+    let fits : length w ≤ length (midOf 4 (length out - 4) out) = omega arith in
+    let k′ = k ∙ ap (λ o. deliver o (midOf 4 (length out - 4) out)) (rewrite-read tag v h ∙ hw) in
+    (deliver-answer w (midOf 4 (length out - 4) out) fits k′, deliver-buffer w (midOf 4 (length out - 4) out) fits k′)
+
+-- the same, where the length came back as n
+pub address-put :
+    (tag : ℕ) (v w out last d : List ℕ) (n r : ℕ) {a : Outcome ℕ}
+    → isAddress tag ≡ true
+    → rewriteAddress builtIn tag v ≡ accepted w
+    → length w ≡ n
+    → r ≡ (n + 7) / 4 * 4
+    → paddedLength (length w) ≤ length out
+    → last ≡ w ++ drop (length w) (midOf 4 (length out - 4) out)
+    → record { answer = a; buffer = d } ≡ deliver (frameParam tag n (putMid 4 (length out - 4) out last)) (putMid 4 (length out - 4) out last)
+    → record { answer = accepted r; buffer = d } ≡ deliver (mapped runOctets (settledParam builtIn (record { tag = tag; value = v }))) out
+address-put tag v w out last d n r t hw e s room le k =
+    let s′ : r ≡ paddedLength (length w) = omega arith in
+    address-placed tag v w out last d r t hw s′ room le
+    (k ∙ ap (λ (i : ℕ). deliver (frameParam tag i (putMid 4 (length out - 4) out last)) (putMid 4 (length out - 4) out last)) (sym e))

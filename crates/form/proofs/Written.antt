@@ -3,21 +3,24 @@ use Prim.Native.Nat.{ℕ, _+_, _-_, _≤_, _<_}
 use mathlib.Core.Path.{_≡_, refl, sym, ap, _∙_, subst}
 use mathlib.Core.List.{List, [], _∷_, _++_, map, map-append, append-nil}
 use native.Mathlib.Omega.{arith}
-use lib.ListN.{length, drop, length-append, length-take, length-drop}
+use lib.ListN.{length, getD, take, drop, length-take, length-drop}
 use borrow.Rule.Slice.PartMut.{midOf, putMid}
 use Rattle.bcd.specs.Outcome.{Outcome, accepted, refused, mapped, each, deliver}
 use Rattle.bcd.specs.Digits.{builtIn}
 use Rattle.bcd.proofs.Outcomes.{accepted-inj, never, mapped-inv, each-inv, each-split, each-append, deliver-buffer, deliver-answer}
 use Rattle.bcd.proofs.Writing.{Begun, untouched, extend, delivered}
 use Rattle.parameter.specs.declared.Place.{Place}
-use Rattle.parameter.specs.Parameter.{Param, runOctets, runLength}
+use Rattle.parameter.specs.Parameter.{Param, mostValue, runOctets, runLength}
 use Rattle.parameter.specs.Walk
-use Rattle.parameter.specs.Walk.{Walked, ended, found, onward, stepAt, steps, places, valued}
+use Rattle.parameter.specs.Walk.{ended, found, stepAt, steps, places, valued}
 use Rattle.parameter.proofs.RoundTrip.{run-length, run-length-append, run-octets-append}
-use Rattle.parameter.proofs.Reaching.{Reached, reached-start, reached-out, reached-next, reached-end, reached-refused, turn}
+use Rattle.parameter.proofs.Running.{part-length}
+use Rattle.parameter.proofs.Walking.{step-inv}
+use Rattle.parameter.proofs.Reaching.{Reached, reached-start, reached-out, reached-next, reached-end, reached-refused, turn as one-turn}
 use Rattle.form.specs.Form.{settledParam}
 use Rattle.form.specs.Passes.{settledRun, Placeable}
-use Rattle.form.proofs.Passes.{run-walked, run-refused}
+use Rattle.form.proofs.Passes.{run-walked, run-refused, valued-part}
+use Rattle.form.proofs.Measuring.{found-small}
 
 -- the form's parameters are known, and take `run` octets
 pub record Known (xs : List ℕ) (run : ℕ) : Type 0 where
@@ -53,7 +56,7 @@ module _ {xs out d : List ℕ} {n from at run : ℕ} (k : Known xs run) (p : Pla
   after-found q next e = go (steps (length xs - (n + 1)) xs next) refl
     where
       here : accepted (k .walked) ≡ mapped (λ qs. p .reached .done ++ qs) (mapped (λ ps. q ∷ ps) (steps (length xs - (n + 1)) xs next))
-      here = sym (k .places) ∙ p .reached .left ∙ ap (mapped (λ qs. p .reached .done ++ qs)) (turn xs n from _ h e)
+      here = sym (k .places) ∙ p .reached .left ∙ ap (mapped (λ qs. p .reached .done ++ qs)) (one-turn xs n from _ h e)
 
       go : (o : Outcome (List Place)) → steps (length xs - (n + 1)) xs next ≡ o → (rest : List Place) × (k .walked ≡ p .reached .done ++ q ∷ rest)
       go (accepted rest) w = (rest, accepted-inj (here ∙ ap (λ o. mapped (λ qs. p .reached .done ++ qs) (mapped (λ ps. q ∷ ps) o)) w))
@@ -129,3 +132,55 @@ placed-all {xs} {out} {d} {n} {from} {at} {run} k p same =
     let b = subst (λ (qs : List Param). Begun out (runOctets qs) d) same (p .begun) in
     delivered run b (run-length (k .params) ∙ k .size)
     ∙ ap (λ o. deliver (mapped runOctets o) out) (sym (run-walked builtIn xs (k .walked) (k .places) ∙ k .settles))
+
+-- what a turn of the writing loop needs, by the numbers of its place
+pub record Turn (xs d : List ℕ) (q : Place) (at : ℕ) : Type 0 where
+  pub inside : q .start + q .length ≤ length xs
+  pub small : q .length ≤ mostValue
+  pub part : Placeable (valued xs q) (length d - at)
+  pub room : at ≤ length d
+
+pub turn :
+    {xs out d : List ℕ} {n from at run : ℕ} (k : Known xs run) (p : Placed xs out d n from at)
+    → n < length xs
+    → run ≤ length out
+    → ((i : ℕ) → getD xs i 0 < 256)
+    → (q : Place) (next : ℕ)
+    → stepAt xs from ≡ accepted (found q next)
+    → Turn xs d q at
+turn {xs} {out} {d} {n} {from} {at} {run} k p h fits o q next e =
+    let (qs, hq, room) = found-part k p h q next e in
+    let f = step-inv xs from e in
+    record {
+      inside = f .inside;
+      small = found-small xs from q next o e;
+      part = record { params = qs; settles = hq; fits = omega (arith, p .begun .same) };
+      room = omega (arith, p .begun .same);
+    }
+
+-- the part of the buffer that is lent, the parameter lent with it, and the length that comes back
+pub turn-lent : {xs d : List ℕ} {q : Place} {at : ℕ} → Turn xs d q at → length (midOf at (length d - at) d) ≡ length d - at
+turn-lent {xs} {d} {q} {at} t = rw (length-take (length d - at) (drop at d), length-drop at d) (omega arith)
+
+pub turn-asks :
+    {xs d : List ℕ} {q : Place} {at : ℕ}
+    → Turn xs d q at
+    → (length (take (q .start + q .length - q .start) (drop (q .start) xs)) ≤ mostValue)
+    × Placeable (record { tag = q .tag; value = take (q .start + q .length - q .start) (drop (q .start) xs) }) (length (midOf at (length d - at) d))
+turn-asks {xs} {d} {q} {at} t = (
+  rw (part-length (q .start) (q .length) xs (t .inside)) (t .small),
+  rw (turn-lent t) (subst (λ (p : Param). Placeable p (length d - at)) (sym (valued-part xs q)) (t .part)),
+)
+
+pub turn-size :
+    {xs d last : List ℕ} {q : Place} {at r : ℕ}
+    → Turn xs d q at
+    → record { answer = accepted r; buffer = last } ≡ deliver (mapped runOctets (settledParam builtIn (valued xs q))) (midOf at (length d - at) d)
+    → at + r ≤ length d
+turn-size {xs} {d} {last} {q} {at} {r} t w =
+    let qs = t .part .params in
+    let l = run-length qs in
+    let size : r ≡ length (runOctets qs) =
+    accepted-inj (deliver-answer (runOctets qs) (midOf at (length d - at) d) (omega (arith, turn-lent t, t .part .fits))
+    (w ∙ ap (λ o. deliver (mapped runOctets o) (midOf at (length d - at) d)) (t .part .settles))) in
+    omega (arith, t .part .fits, t .room)

@@ -19,7 +19,7 @@ ghost use Rattle.bcd.specs.Digits.{builtIn};
 ghost use Rattle.parameter.specs.Parameter.{Param, mostValue, runOctets, runLength};
 ghost use Rattle.parameter.specs.Walk.{valued};
 ghost use Rattle.form.specs.Form.{isAddress, settledParam, settled};
-ghost use Rattle.form.specs.Passes.{settledRun, sumOf};
+ghost use Rattle.form.specs.Passes.{settledRun, sumOf, Placeable};
 
 // Whether a parameter is a source or a destination address.
 fn is_address(tag: u16) -> bool
@@ -103,6 +103,76 @@ pub fn settled_length(input: &[u8]) -> Counted
         HeaderRead::Header(_) => match measure(input) {
             Counted::Refused(refusal) => Counted::Refused(refusal),
             Counted::Count(run) => Counted::Count(8 + run),
+        },
+    }
+}
+
+// Writes a parameter's part of the form, for which there is room, and answers its length.
+fn put_settled(tag: u16, value: &[u8], out: &mut [u8]) -> usize
+    requires { ⌜ length (now value) ≤ mostValue ⌝ }
+    requires { ⌜ Placeable (record { tag = tag; value = now value }) (length (now out)) ⌝ }
+    ensures { λ r. ⌜ record { answer = accepted r; buffer = now (out .exit) } ≡ deliver (mapped runOctets (settledParam builtIn (record { tag = tag; value = now (value .entry) }))) (now (out .entry)) ⌝ }
+{
+    if is_address(tag) {
+        let Counted::Count(n) = address::rewrite::rewrite(tag, value, &mut out[4..]) else {
+            return 0;
+        };
+        parameter::frame(tag, n, out);
+        return (n + 7) / 4 * 4;
+    }
+    parameter::encode(tag, value, out);
+    (value.len() + 7) / 4 * 4
+}
+
+// Writes the parameters of the form, which take `run` octets.
+fn write_params(input: &[u8], run: usize, out: &mut [u8])
+    requires { ⌜ length (now input) ≤ most ⌝ }
+    requires { ⌜ accepted run ≡ mapped runLength (settledRun builtIn (now input)) ⌝ }
+    requires { ⌜ run ≤ length (now out) ⌝ }
+    ensures { λ _. ⌜ record { answer = accepted run; buffer = now (out .exit) } ≡ deliver (mapped runOctets (settledRun builtIn (now (input .entry)))) (now (out .entry)) ⌝ }
+{
+    let mut c = Cursor {
+        at: CommonHeader::SIZE,
+    };
+    let mut at: usize = 0;
+    let mut n: usize = 0;
+    while n < input.len() {
+        match c.step(input) {
+            Step::Parameter(place, next) => {
+                let start = place.start;
+                let end = start + place.length;
+                at = at + put_settled(place.tag, &input[start..end], &mut out[at..]);
+                c = next;
+                n = n + 1;
+            }
+            Step::End => {
+                return;
+            }
+            Step::Refused(_) => {
+                return;
+            }
+        }
+    }
+}
+
+// Writes the form of a message. Reading's refusals, then each address's, 9, 10 in wire order, then 14.
+pub fn settle(input: &[u8], out: &mut [u8]) -> Counted
+    ensures { λ r. ⌜ record { answer = countedOf r; buffer = now (out .exit) } ≡ deliver (settled builtIn (now (input .entry))) (now (out .entry)) ⌝ }
+{
+    match CommonHeader::decode(input) {
+        HeaderRead::Refused(r) => Counted::Refused(r),
+        HeaderRead::Header(h) => match measure(input) {
+            Counted::Refused(refusal) => Counted::Refused(refusal),
+            Counted::Count(run) => {
+                let total = CommonHeader::SIZE + run;
+                if out.len() < total {
+                    return Counted::Refused(Refusal::OutputTooSmall(total));
+                }
+                let message_type = h.message_type;
+                CommonHeader::new(message_type, total as u32).encode(out);
+                write_params(input, run, &mut out[8..]);
+                Counted::Count(total)
+            }
         },
     }
 }

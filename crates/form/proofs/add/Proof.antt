@@ -1,22 +1,18 @@
 -- `form::add` meets its contract.
 use mathlib.Core.Path.{_≡_, refl, sym, ap, _∙_}
-use Prim.Native.Nat.{ℕ, _+_, _*_, _≤_}
+use Prim.Native.Nat.{_+_, _*_, _≤_}
 use native.Mathlib.Omega.{arith}
 use Rattle.bcd.specs.declared.error.Counted.{Counted}
-use Rattle.bcd.specs.Outcome.{Outcome, accepted, after, mapped, most}
+use Rattle.bcd.specs.Outcome.{after, mapped, most}
 use Rattle.bcd.specs.Answers.{countedOf}
 use Rattle.bcd.specs.Digits.{builtIn}
-use Rattle.parameter.specs.Parameter.{Param, mostValue, runLength}
+use Rattle.parameter.specs.Parameter.{Param, runLength}
 use Rattle.parameter.specs.Walk.{valued}
 use Rattle.form.specs.Form.{settledParam}
-use Rattle.form.specs.Passes.{sumOf}
 use Rattle.form.proofs.Passes.{valued-part, valued-length, length-small, added}
 use borrow.Author.Needs.{needs}
 use Rattle.form.proofs.add.Statement.{statement}
 use Rattle.form.proofs.add.Tie as tie
-use Rattle.form.proofs.add.Reads as reads
-use Rattle.form.proofs.add.Lts as lts
-use Rattle.form.proofs.settled_length_of.Reads as settled-length-of-reads
 
 abbrev start : tie.After-settled-length-of → tie.Start
 start c = c .before .before .before .before .before .before .before

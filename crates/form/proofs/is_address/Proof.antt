@@ -1,13 +1,9 @@
 -- `form::is_address` meets its contract.
-use mathlib.Core.Path.{_≡_, sym, ap, _∙_}
-use mathlib.Core.Bool.{_||_}
-use lib.Dec.{eqb}
+use mathlib.Core.Path.{sym, ap}
 use borrow.Author.Tests.{ne-eqb}
 use Rattle.form.specs.Form.{isAddress}
 use Rattle.form.proofs.is_address.Statement.{statement}
 use Rattle.form.proofs.is_address.Tie as tie
-use Rattle.form.proofs.is_address.Reads as reads
-use Rattle.form.proofs.is_address.Lts as lts
 
 returns : tie.Need-returns
 returns c = ap isAddress (sym (c .match .keys1))

@@ -1,10 +1,9 @@
 -- `form::measure` meets its contract: the loop has measured the first n parameters.
 use borrow.Author.Needs.{needs}
-use Prim.Native.Nat.{ℕ, _-_, _≤_, _<_}
+use Prim.Native.Nat.{ℕ, _-_, _<_}
 use mathlib.Core.Path.{_≡_, sym, ap, _∙_}
 use native.Mathlib.Omega.{arith}
 use lib.ListN.{length, getD}
-use Rattle.bcd.specs.Outcome.{bounded}
 use Rattle.bcd.specs.Answers.{countedOf}
 use Rattle.bcd.proofs.Outcomes.{bounded-within}
 use Rattle.parameter.specs.declared.Step.{Step}
@@ -14,10 +13,6 @@ use Rattle.parameter.proofs.Walking.{step-inv}
 use Rattle.form.proofs.Measuring.{Measuring, found-small, measuring-start, measuring-more, measured-out, measured-end, measured-refused}
 use Rattle.form.proofs.measure.Statement.{statement}
 use Rattle.form.proofs.measure.Tie as tie
-use Rattle.form.proofs.measure.Reads as reads
-use Rattle.form.proofs.measure.Lts as lts
-use Rattle.form.proofs.add.Reads as add-reads
-use Rattle.parameter.proofs.Cursor.step.Reads as step-reads
 
 abbrev Inv-loop : tie.InvT-loop
 Inv-loop input c₀ sum₀ n₀ c sum n = Measuring input n (c .at) (countedOf sum)

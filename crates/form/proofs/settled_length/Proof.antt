@@ -4,24 +4,17 @@ use Prim.Native.Nat.{ℕ, _+_, _<_}
 use native.Mathlib.Omega.{arith}
 use lib.ListN.{length, getD}
 use Rattle.bcd.specs.declared.error.Counted.{Counted}
-use Rattle.bcd.specs.Outcome.{Outcome, accepted, mapped}
+use Rattle.bcd.specs.Outcome.{accepted, mapped}
 use Rattle.bcd.specs.Answers.{countedOf}
 use Rattle.bcd.specs.Digits.{builtIn}
-use Rattle.parameter.specs.Parameter.{runLength}
-use Rattle.message.specs.declared.header.CommonHeader.{CommonHeader}
 use Rattle.message.specs.Message.{readHeader, headerReadOf}
 use Rattle.message.proofs.Listing.{header-within}
 use Rattle.form.specs.Form.{settled}
-use Rattle.form.specs.Passes.{settledRun}
 use Rattle.form.proofs.Passes.{settled-refused, length-run}
 use Rattle.form.proofs.Measuring.{run-small}
 use borrow.Author.Needs.{needs}
 use Rattle.form.proofs.settled_length.Statement.{statement}
 use Rattle.form.proofs.settled_length.Tie as tie
-use Rattle.form.proofs.settled_length.Reads as reads
-use Rattle.form.proofs.settled_length.Lts as lts
-use Rattle.form.proofs.measure.Reads as measure-reads
-use Rattle.message.proofs.header.CommonHeader.decode.Reads as decode-reads
 
 abbrev start : tie.After-enum-told → tie.Start
 start c = c .before .before .before .before

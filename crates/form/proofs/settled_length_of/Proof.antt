@@ -1,5 +1,5 @@
 -- `form::settled_length_of` meets its contract, for an address and for any other parameter.
-use mathlib.Core.Path.{_≡_, sym, ap, _∙_}
+use mathlib.Core.Path.{sym, ap, _∙_}
 use lib.ListN.{length}
 use Rattle.bcd.specs.Outcome.{mapped}
 use Rattle.bcd.specs.Answers.{countedOf}
@@ -7,11 +7,6 @@ use Rattle.form.proofs.Passes.{rewrite-read, raw-length, address-length
 use borrow.Author.Needs.{needs}
 use Rattle.form.proofs.settled_length_of.Statement.{statement}
 use Rattle.form.proofs.settled_length_of.Tie as tie
-use Rattle.form.proofs.settled_length_of.Reads as reads
-use Rattle.form.proofs.settled_length_of.Lts as lts
-use Rattle.address.proofs.rewrite.rewritten_length.Reads as rewritten-length-reads
-use Rattle.form.proofs.is_address.Reads as is-address-reads
-use Rattle.parameter.proofs.wire_length.Reads as wire-length-reads
 
 is-address-requires : tie.Need-is-address-requires
 is-address-requires c κs = search needs

@@ -1,0 +1,132 @@
+-- An address value that was planned, written part by part.
+use Prim.Native.Nat.{ℕ, _+_, _-_, _*_, _/_, _%_, _≤_, _<_}
+use mathlib.Core.Path.{_≡_, refl, sym, ap, ap₂, _∙_, subst}
+use mathlib.Core.List.{List, [], _∷_, _++_, append-assoc}
+use native.Mathlib.Omega.{arith}
+use lib.ListN.{length, getD, set, drop, length-append}
+use borrow.Rule.Slice.PartMut.{midOf, putMid}
+use Rattle.bcd.specs.Outcome.{Outcome, accepted, after, mapped, each, deliver}
+use Rattle.bcd.specs.Digits.{builtIn}
+use Rattle.bcd.proofs.Outcomes.{accepted-inj, mapped-inv, each-split, deliver-buffer, deliver-answer}
+use Rattle.bcd.proofs.Writing.{Begun, begin, extend, delivered}
+use Rattle.parameter.specs.Parameter.{Param, two, twoAt, runOctets, runLength}
+use Rattle.parameter.proofs.RoundTrip.{run-length, run-octets-append, run-length-append}
+use Rattle.address.specs.Address.{title, code, sub, present, subParam, readAddress, writeAddress}
+use Rattle.address.specs.Parts.{keptTitle, keptCode, keptSub, keptPieces}
+use Rattle.address.specs.Plan.{Ready, headOctets, wireOf, Plan, othersOctets}
+use Rattle.address.specs.declared.parts.Parts.{Parts}
+use Rattle.address.proofs.Planning.{paramOf, codeParam, subOne, code-params, sub-params, rest, kept-written, others-sum}
+use Rattle.address.proofs.Plans.{plan-octets, wire-length}
+use Rattle.address.proofs.Copying.{othersOf, done-octets, lent-length}
+
+-- The four octets in front.
+pub four-stored : (a b c d : ℕ) (out : List ℕ) → 4 ≤ length out → set (set (set (set out 0 a) 1 b) 2 c) 3 d ≡ a ∷ b ∷ c ∷ d ∷ drop 4 out
+four-stored a b c d [] h = absurd (omega arith)
+four-stored a b c d (w ∷ []) h = absurd (omega arith)
+four-stored a b c d (w ∷ x ∷ []) h = absurd (omega arith)
+four-stored a b c d (w ∷ x ∷ y ∷ []) h = absurd (omega arith)
+four-stored a b c d (w ∷ x ∷ y ∷ z ∷ out) h = refl
+
+pub head-octets : (v r : List ℕ) → getD v 1 0 < 256 → getD v 0 0 ∷ getD v 1 0 ∷ 0 ∷ (getD v 3 0 % 8) ∷ r ≡ headOctets v ++ r
+unfolding twoAt
+head-octets v r h =
+    let high : (getD v 0 0 * 256 + getD v 1 0) / 256 ≡ getD v 0 0 = omega arith in
+    let low : (getD v 0 0 * 256 + getD v 1 0) % 256 ≡ getD v 1 0 = omega arith in
+    let none : getD v 3 0 % 8 / 256 ≡ 0 = omega arith in
+    let bits : getD v 3 0 % 8 % 256 ≡ getD v 3 0 % 8 = omega arith in
+    rw (high, low, none, bits)
+
+-- Sub-parameters that a callee wrote behind what was begun.
+pub record Wrote (out p d : List ℕ) (at : ℕ) (qs : List Param) (r : ℕ) (last : List ℕ) : Type 0 where
+  pub count : r ≡ runLength qs
+  pub begun : Begun out (p ++ runOctets qs) (putMid at (length d - at) d last)
+  pub place : length (p ++ runOctets qs) ≡ at + r
+
+module _ {out p d : List ℕ} (at : ℕ) (b : Begun out p d) (place : length p ≡ at) (o : Outcome (List Param)) (qs : List Param) (known : o ≡ accepted qs)
+    (room : at + runLength qs ≤ length out) where
+  pub ready-behind : Ready o (midOf at (length d - at) d)
+  ready-behind = record { params = qs; accepts = known; room = omega (arith, lent-length d at, b .same) }
+
+  pub wrote :
+      (r : ℕ) (last : List ℕ)
+      → record { answer = accepted r; buffer = last } ≡ deliver (mapped runOctets o) (midOf at (length d - at) d)
+      → Wrote out p d at qs r last
+  wrote r last e =
+      let os = runOctets qs in
+      let l = run-length qs in
+      let lent = lent-length d at in
+      let fit : length os ≤ length (midOf at (length d - at) d) = omega (arith, b .same) in
+      let put = e ∙ ap (λ (o : Outcome (List Param)). deliver (mapped runOctets o) (midOf at (length d - at) d)) known in
+      let count = accepted-inj (deliver-answer os (midOf at (length d - at) d) fit put) ∙ l in
+      record {
+        count = count;
+        begun = extend os last at (length d - at) b place (omega (arith, b .same)) (omega (arith, b .same)) (deliver-buffer os (midOf at (length d - at) d) fit put);
+        place = rw (length-append p os) (omega arith);
+      }
+
+-- The sub-parameters of a plan, part by part.
+pub record Pieces (v : List ℕ) (s : Parts) (total : ℕ) (p : Plan v s total) : Type 0 where
+  pub titled : List Param
+  pub title : each (subParam builtIn) (present title (keptTitle builtIn v (s .title))) ≡ accepted titled
+  pub whole : titled ++ rest v s (p .known .places) ≡ p .params
+
+pub planned-pieces : {v : List ℕ} {s : Parts} {total : ℕ} (p : Plan v s total) → Pieces v s total p
+unfolding keptPieces
+planned-pieces {v} {s} p =
+    let (us, vs, hu, hv, j) = each-split (subParam builtIn) (present title (keptTitle builtIn v (s .title))) _ (p .params) (p .written) in
+    record { titled = us; title = hu; whole = accepted-inj (sym (kept-written v s (p .known .places) us hu) ∙ p .written) }
+
+module _ {v : List ℕ} {s : Parts} {total : ℕ} (p : Plan v s total) where
+  abbrev pub codes : List Param
+  codes = paramOf codeParam (keptCode v (s .code))
+
+  abbrev pub subs : List Param
+  subs = paramOf subOne (keptSub v (s .ssn))
+
+  abbrev others : List Param
+  others = othersOf v (p .known .places)
+
+  pub planned-length : 4 + runLength (planned-pieces p .titled) + runLength codes + runLength subs + runLength others ≡ total
+  planned-length =
+      let q = planned-pieces p in
+      let a = run-length-append (q .titled) (codes ++ (subs ++ others)) in
+      let b = run-length-append codes (subs ++ others) in
+      let c = run-length-append subs others in
+      omega (arith, ap runLength (q .whole), p .size)
+
+  pub planned-others : s .«other_length» ≡ runLength others
+  planned-others = others-sum (p .known)
+
+  planned-octets : (((headOctets v ++ runOctets (planned-pieces p .titled)) ++ runOctets codes) ++ runOctets subs) ++ runOctets others ≡ wireOf v (p .params)
+  planned-octets =
+      let q = planned-pieces p in
+      let t = runOctets (q .titled) in
+      let c = runOctets codes in
+      let u = runOctets subs in
+      let o = runOctets others in
+      append-assoc ((headOctets v ++ t) ++ c) u o
+      ∙ append-assoc (headOctets v ++ t) c (u ++ o)
+      ∙ append-assoc (headOctets v) t (c ++ (u ++ o))
+      ∙ ap (λ l. headOctets v ++ l)
+      (sym (ap runOctets (sym (q .whole)) ∙ run-octets-append (q .titled) (codes ++ (subs ++ others))
+      ∙ ap (λ l. t ++ l) (run-octets-append codes (subs ++ others) ∙ ap (λ l. c ++ l) (run-octets-append subs others))))
+
+  -- The others behind the rest: all is written.
+  pub planned-done :
+      (out d last : List ℕ) (at : ℕ)
+      → Begun out (((headOctets v ++ runOctets (planned-pieces p .titled)) ++ runOctets codes) ++ runOctets subs) d
+      → length (((headOctets v ++ runOctets (planned-pieces p .titled)) ++ runOctets codes) ++ runOctets subs) ≡ at
+      → at + runLength others ≤ length out
+      → last ≡ othersOctets v ++ drop (length (othersOctets v)) (midOf at (length d - at) d)
+      → record { answer = accepted total; buffer = putMid at (length d - at) d last } ≡ deliver (after (readAddress builtIn v) (writeAddress builtIn 0)) out
+  planned-done out d last at b place room e =
+      let o = done-octets v (p .known .places) (p .known .walked) in
+      let put = e ∙ ap (λ l. l ++ drop (length l) (midOf at (length d - at) d)) o in
+      let l = run-length others in
+      let x = extend (runOctets others) last at (length d - at) b place (omega (arith, b .same)) (omega (arith, b .same)) put in
+      delivered total (subst (λ (w : List ℕ). Begun out w (putMid at (length d - at) d last)) planned-octets x) (wire-length v (p .params) ∙ p .size)
+      ∙ ap (λ (o : Outcome (List ℕ)). deliver o out) (sym (plan-octets 0 p))
+
+-- The tag is told only where the value is too long.
+pub any-tag : {v : List ℕ} {s : Parts} {total : ℕ} (tag : ℕ) (p : Plan v s total) → after (readAddress builtIn v) (writeAddress builtIn 0) ≡ after (readAddress builtIn v) (writeAddress builtIn tag)
+any-tag tag p = plan-octets 0 p ∙ sym (plan-octets tag p)

@@ -11,3 +11,4 @@ pub mod Written
 pub mod Worked
 pub mod Lines
 pub mod Printing
+pub mod Printed

@@ -117,7 +117,7 @@ formHead f = between (0x28 ∷ 0x66 ∷ 0x6F ∷ 0x72 ∷ 0x6D ∷ 0x20 ∷ []) 
 
 pub form-head-length : (f : List ℕ) → length (formText f) ≡ length (formHead f) + length (words f) + 3
 unfolding formText
-form-head-length f = rw (length-append, length-append) (omega arith)
+form-head-length f = omega (arith, length-append (formHead f ++ words f) (0x29 ∷ 0x29 ∷ 0x0A ∷ []), length-append (formHead f) (words f))
 
 module _ (f out : List ℕ) (room : length (formText f) ≤ length out) where
   pub form-begun : (d : List ℕ) → d ≡ formHead f ++ drop (length (formHead f)) out → Begun out (formHead f) d

@@ -3,8 +3,10 @@ use Prim.Native.Nat.{ℕ, zero, suc, _+_, _-_, _/_, _%_}
 use mathlib.Core.Bool.{_&&_}
 use mathlib.Core.List.{List, [], _∷_, _++_}
 use lib.ListN.{length}
-use lib.Dec.{ltb, eqb}
-use Rattle.bcd.specs.Outcome.{Outcome, accepted, pick, bounded}
+use lib.Dec.{leb, ltb, eqb}
+use Rattle.bcd.specs.Outcome.{Outcome, accepted, refused, pick, after, demand, bounded, deliver}
+use Rattle.bcd.specs.Digits.{builtIn}
+use Rattle.form.specs.Form.{settled}
 
 -- The character of a number below 16: 0 to 9, then a to f.
 abbrev pub digit : ℕ → ℕ
@@ -50,3 +52,31 @@ formLine f = bounded f (accepted (formText f))
 -- `(refused `, the number, `)` and a line feed.
 unfoldable pub refusedLine : (number : ℕ) → List ℕ
 refusedLine n = between (0x28 ∷ 0x72 ∷ 0x65 ∷ 0x66 ∷ 0x75 ∷ 0x73 ∷ 0x65 ∷ 0x64 ∷ 0x20 ∷ []) n (0x29 ∷ 0x0A ∷ [])
+
+-- The octets that the program takes at most; more count as 12.
+abbrev pub mostTaken : ℕ
+mostTaken = 65536
+
+unfoldable pub settledInput : List ℕ → Outcome (List ℕ)
+settledInput xs = demand (leb (length xs) mostTaken) 12 (length xs ∷ []) (settled builtIn xs)
+
+-- Octets that fit in a buffer of so many, else 14.
+abbrev pub within : (room : ℕ) → Outcome (List ℕ) → Outcome (List ℕ)
+within room o = after o (λ os. demand (leb (length os) room) 14 (length os ∷ []) (accepted os))
+
+-- The line of a form, or of a refusal's number.
+abbrev pub lineOf : Outcome (List ℕ) → Outcome (List ℕ)
+lineOf (accepted f) = formLine f
+lineOf (refused number values) = accepted (refusedLine number)
+
+-- What the function that makes the program's line answers, and what its two buffers then hold.
+pub record Printed : Type 0 where
+  pub answer : Outcome ℕ
+  pub form : List ℕ
+  pub out : List ℕ
+
+-- The input is settled into the first buffer, and the line of what that answers is written to the second.
+unfoldable pub printed : (input form out : List ℕ) → Printed
+printed xs form out =
+    let line = deliver (lineOf (within (length form) (settledInput xs))) out in
+    record { answer = line .answer; form = deliver (settledInput xs) form .buffer; out = line .buffer }

@@ -7,7 +7,7 @@ ghost use mathlib.Core.List.{_++_};
 ghost use lib.ListN.{length, drop};
 ghost use Rattle.bcd.specs.Outcome.{accepted, deliver, most};
 ghost use Rattle.bcd.specs.Answers.{countedOf, numbered};
-ghost use Rattle.form.specs.Line.{decimal, hex, space, words, between, formText, formLine, refusedLine};
+ghost use Rattle.form.specs.Line.{decimal, hex, space, words, between, formText, formLine, refusedLine, printed};
 ghost use Rattle.form.specs.Line.{digit as Line·digit};
 
 // A refusal's number.
@@ -180,4 +180,19 @@ pub fn refused_line(refusal: Refusal, out: &mut [u8]) -> Counted
     }
     put_between(b"(refused ", which, b")\n", out);
     Counted::Count(n)
+}
+
+// Makes the program's line: settles the input into the first buffer, and writes the line of the form, or of the refusal,
+// to the second. 14 of the second; a refusal of the input, or of the first buffer, is in the line.
+pub fn line(input: &[u8], form: &mut [u8], out: &mut [u8]) -> Counted
+    ensures { λ r. ⌜ record { answer = countedOf r; form = now (form .exit); out = now (out .exit) } ≡ printed (now (input .entry)) (now (form .entry)) (now (out .entry)) ⌝ }
+{
+    let given = input.len();
+    if 65536 < given {
+        return refused_line(Refusal::TooManyOctets(given), out);
+    }
+    match crate::settle(input, form) {
+        Counted::Refused(r) => refused_line(r, out),
+        Counted::Count(n) => form_line(&form[..n], out),
+    }
 }

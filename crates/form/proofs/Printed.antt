@@ -11,7 +11,7 @@ use Rattle.bcd.specs.Outcome.{Outcome, accepted, refused, Delivered, deliver}
 use Rattle.bcd.specs.Digits.{builtIn}
 use Rattle.bcd.proofs.Outcomes.{accepted-inj, never, le-or-lt, deliver-fits, deliver-short, deliver-refused}
 use Rattle.form.specs.Form.{settled}
-use Rattle.form.specs.Line.{formLine, refusedLine, mostTaken, settledInput, within, lineOf, printed}
+use Rattle.form.specs.Line.{formLine, refusedLine, mostTaken, settledInput, within, lineOf, Printed, printed}
 
 -- what a writer's contract tells of its answer and of its buffer
 pub record Fitted (o : Outcome (List ℕ)) (n : ℕ) (form g : List ℕ) : Type 0 where
@@ -110,3 +110,12 @@ module _ (xs form out d : List ℕ) (a : Outcome ℕ) where
         let f = fitted (settledInput xs) n form g (told s) in
         line-of g (sym (ap (λ (l : Delivered). l .buffer) (told s)))
         (e ∙ ap (λ (l : List ℕ). deliver (formLine l) out) (f .front) ∙ sym (ap (λ (o : Outcome (List ℕ)). deliver (lineOf o) out) (f .whole)))
+
+-- a line that was written lies in its buffer
+pub line-fits : {g d : List ℕ} (xs form out : List ℕ) (n : ℕ) → record { answer = accepted n; form = g; out = d } ≡ printed xs form out → n ≤ length d
+unfolding printed
+line-fits {g} {d} xs form out n e =
+    let f =
+    fitted (lineOf (within (length form) (settledInput xs))) n out d
+    (ap (λ (p : Printed). record { answer = p .answer; buffer = p .out }) e) in
+    omega (arith, f .fits, f .same)

@@ -12,3 +12,4 @@ pub mod Worked
 pub mod Lines
 pub mod Printing
 pub mod Printed
+pub mod Program

@@ -16,7 +16,10 @@ use Rattle.form.proofs.line.line.Tie as tie
 abbrev start : tie.After-settle → tie.Start
 start c = c .before .before .before .before .before .before
 
-formed : (c : tie.After-known-told2) → record { answer = accepted (c .before .n .given .0 .0); buffer = c .before .before .before .before .before .settle .last .1 .0 } ≡ deliver (settled builtIn (start (c .before .before .before .before .before) .args .input .now)) (start (c .before .before .before .before .before) .args .form .now)
+formed : (c : tie.After-known-told2) →
+    let k = c .before .before .before .before .before in
+    let a = start k .args in
+    record { answer = accepted (c .before .n .given .0 .0); buffer = k .settle .last .1 .0 } ≡ deliver (settled builtIn (a .input .now)) (a .form .now)
 formed c =
     let k = c .before .before .before .before .before in
     ap (λ (a : Outcome ℕ). record { answer = a; buffer = k .settle .last .1 .0 }) (sym (ap countedOf (c .before .n .given .1))) ∙ k .settle .ensures

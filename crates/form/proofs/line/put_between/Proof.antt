@@ -15,7 +15,9 @@ use Rattle.form.proofs.line.put_between.Tie as tie
 abbrev start : tie.After-copy → tie.Start
 start c = c .before .before .before .before .before
 
-whole : (s : tie.Start) → length (s .args .head .now) + length (decimal (s .args .n)) + length (s .args .tail .now) ≡ length (between (s .args .head .now) (s .args .n) (s .args .tail .now))
+whole : (s : tie.Start) →
+    let a = s .args in
+    length (a .head .now) + length (decimal (a .n)) + length (a .tail .now) ≡ length (between (a .head .now) (a .n) (a .tail .now))
 whole s = between-length (s .args .head .now) (s .args .n) (s .args .tail .now) (s .args .out .now) (s .pre)
 
 opened : (c : tie.After-copy) → Begun (start c .args .out .now) (start c .args .head .now) (c .copy .last .1 .0)
@@ -23,7 +25,11 @@ opened c =
     let a = start c .args in
     after-head (a .head .now) (a .n) (a .tail .now) (a .out .now) (start c .pre) (c .copy .last .1 .0) (c .copy .ensures .1)
 
-counted : (c : tie.After-put-decimal) → Begun (start (c .before .before .before .before) .args .out .now) (start (c .before .before .before .before) .args .head .now ++ decimal (start (c .before .before .before .before) .args .n)) (putMid (c .before .before .before .before .copy .result) (length (c .before .before .before .before .copy .last .1 .0) - c .before .before .before .before .copy .result) (c .before .before .before .before .copy .last .1 .0) (c .put-decimal .last .1 .0))
+counted : (c : tie.After-put-decimal) →
+    let k = c .before .before .before .before in
+    let a = start k .args in
+    let d = k .copy .last .1 .0 in
+    Begun (a .out .now) (a .head .now ++ decimal (a .n)) (putMid (k .copy .result) (length d - k .copy .result) d (c .put-decimal .last .1 .0))
 counted c =
     let k = c .before .before .before .before in
     let a = start k .args in

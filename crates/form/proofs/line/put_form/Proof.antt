@@ -27,7 +27,11 @@ room s = omega (arith, s .pre .0, s .pre .1)
 begun : (c : tie.After-put-between) → Begun (start c .args .out .now) (formHead (start c .args .form .now)) (c .put-between .last .1 .1 .1 .0)
 begun c = form-begun (start c .args .form .now) (start c .args .out .now) (room (start c)) _ (c .put-between .ensures .1)
 
-worded : (c : tie.After-put-words) → Begun (start (c .before .before .before .before) .args .out .now) (formHead (start (c .before .before .before .before) .args .form .now) ++ words (start (c .before .before .before .before) .args .form .now)) (putMid (c .before .before .before .before .put-between .result) (length (c .before .before .before .before .put-between .last .1 .1 .1 .0) - c .before .before .before .before .put-between .result) (c .before .before .before .before .put-between .last .1 .1 .1 .0) (c .put-words .last .1 .0))
+worded : (c : tie.After-put-words) →
+    let k = c .before .before .before .before in
+    let f = start k .args .form .now in
+    let d = k .put-between .last .1 .1 .1 .0 in
+    Begun (start k .args .out .now) (formHead f ++ words f) (putMid (k .put-between .result) (length d - k .put-between .result) d (c .put-words .last .1 .0))
 worded c =
     let k = c .before .before .before .before in
     after-words (start k .args .form .now) (start k .args .out .now) (room (start k)) _ _ _ (begun k) (k .put-between .ensures .0) (c .put-words .ensures)

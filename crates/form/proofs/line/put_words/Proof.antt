@@ -19,18 +19,25 @@ Inv-loop form out₀ at₀ i₀ out at i = (i ≤ length form) × (at ≡ length
 abbrev μ-loop : tie.MeasureT-loop
 μ-loop form out₀ at₀ i₀ out at i = length form - i
 
+abbrev start : tie.In-loop Inv-loop μ-loop → tie.Start Inv-loop μ-loop
+start c = c .before .before .before .before
+
 -- there is room for the octet of this turn
-room : (c : tie.In-loop Inv-loop μ-loop) → length (words (take (c .before .loop .i) (c .before .before .before .before .args .form .now))) + length (space (c .before .loop .i)) + 2 ≤ length (c .before .before .before .before .args .out .now)
-room c =
-    let s = c .before .before .before .before in
-    turn-room (s .args .form .now) (s .args .out .now) (c .before .loop .i) (c .loop-test .taken) (s .pre)
+room : (c : tie.In-loop Inv-loop μ-loop) →
+    let l = c .before .loop in
+    length (words (take (l .i) (start c .args .form .now))) + length (space (l .i)) + 2 ≤ length (start c .args .out .now)
+room c = turn-room (start c .args .form .now) (start c .args .out .now) (c .before .loop .i) (c .loop-test .taken) (start c .pre)
 
 -- the buffer once the space is stored
-spaced : (c : tie.After-put-space Inv-loop μ-loop) → Begun (c .before .before .before .before .before .before .args .out .now) (words (take (c .before .before .before .loop .i) (c .before .before .before .before .before .before .args .form .now)) ++ space (c .before .before .before .loop .i)) (putMid (c .before .before .before .loop .at) (length (c .before .before .before .loop .out) - c .before .before .before .loop .at) (c .before .before .before .loop .out) (c .put-space .last .1 .0))
-spaced c =
+spaced : (c : tie.After-put-space Inv-loop μ-loop) →
     let l = c .before .before .before .loop in
-    let s = c .before .before .before .before .before .before in
-    after-space (s .args .form .now) (s .args .out .now) (l .i) (c .before .before .loop-test .taken) (s .pre) (l .out) _ (l .at) (l .inv .2) (l .inv .1) (c .put-space .ensures .1)
+    let a = start (c .before .before) .args in
+    Begun (a .out .now) (words (take (l .i) (a .form .now)) ++ space (l .i)) (putMid (l .at) (length (l .out) - l .at) (l .out) (c .put-space .last .1 .0))
+spaced c =
+    let t = c .before .before in
+    let l = t .before .loop in
+    let a = start t .args in
+    after-space (a .form .now) (a .out .now) (l .i) (t .loop-test .taken) (start t .pre) (l .out) _ (l .at) (l .inv .2) (l .inv .1) (c .put-space .ensures .1)
 
 loop-holds : tie.Need-loop-holds Inv-loop μ-loop
 unfolding wordsFrom

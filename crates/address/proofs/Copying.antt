@@ -1,12 +1,12 @@
 -- The other sub-parameters, written in order by a walk: how far it has come.
-use Prim.Native.Nat.{ℕ, _+_, _-_, _*_, _/_, _≤_, _<_}
-use mathlib.Core.Path.{_≡_, refl, sym, ap, _∙_, subst}
+use Prim.Native.Nat.{ℕ, _+_, _-_, _≤_, _<_}
+use mathlib.Core.Path.{_≡_, refl, sym, ap, _∙_}
 use mathlib.Core.Bool.{Bool, true, false}
-use mathlib.Core.List.{List, [], _∷_, _++_, map, map-append, append-nil}
+use mathlib.Core.List.{List, [], _∷_, _++_, map, map-append}
 use native.Mathlib.Omega.{arith}
-use lib.ListN.{length, getD, take, drop, length-append, length-take, length-drop}
+use lib.ListN.{length, take, drop, length-append, length-take, length-drop}
 use borrow.Rule.Slice.PartMut.{midOf, putMid}
-use Rattle.bcd.specs.Outcome.{Outcome, accepted, pick, mapped, Octets, most, deliver}
+use Rattle.bcd.specs.Outcome.{Outcome, accepted, pick, Octets, most, deliver}
 use Rattle.bcd.proofs.Outcomes.{accepted-inj, mapped-inv, deliver-buffer, deliver-answer, octets-at}
 use Rattle.bcd.proofs.Writing.{Begun, untouched, extend}
 use Rattle.parameter.specs.Parameter.{Param, paddedLength, paramOctets, runOctets, runLength, mostValue, encodeParam, twoAt}
@@ -17,7 +17,7 @@ use Rattle.parameter.proofs.Reaching.{Reached, reached-start, reached-next}
 use Rattle.parameter.proofs.RoundTrip.{run-length, run-octets-append, run-length-append}
 use Rattle.parameter.proofs.Running.{part-of}
 use Rattle.address.specs.Parts.{isOther, otherPlaces}
-use Rattle.address.specs.Plan.{Walked, placesIn, othersOctets}
+use Rattle.address.specs.Plan.{Walked, othersOctets}
 use Rattle.address.specs.declared.parts.Parts.{Parts}
 use Rattle.address.proofs.Keeping.{value-length}
 use Rattle.address.proofs.Planning.{others-sum, others-small}

@@ -1,21 +1,21 @@
 -- An address value that was planned, written part by part.
 use Prim.Native.Nat.{ℕ, _+_, _-_, _*_, _/_, _%_, _≤_, _<_}
-use mathlib.Core.Path.{_≡_, refl, sym, ap, ap₂, _∙_, subst}
+use mathlib.Core.Path.{_≡_, refl, sym, ap, _∙_, subst}
 use mathlib.Core.List.{List, [], _∷_, _++_, append-assoc}
 use native.Mathlib.Omega.{arith}
 use lib.ListN.{length, getD, set, drop, length-append}
 use borrow.Rule.Slice.PartMut.{midOf, putMid}
 use Rattle.bcd.specs.Outcome.{Outcome, accepted, after, mapped, each, deliver}
 use Rattle.bcd.specs.Digits.{builtIn}
-use Rattle.bcd.proofs.Outcomes.{accepted-inj, mapped-inv, each-split, deliver-buffer, deliver-answer}
-use Rattle.bcd.proofs.Writing.{Begun, begin, extend, delivered}
-use Rattle.parameter.specs.Parameter.{Param, two, twoAt, runOctets, runLength}
+use Rattle.bcd.proofs.Outcomes.{accepted-inj, each-split, deliver-buffer, deliver-answer}
+use Rattle.bcd.proofs.Writing.{Begun, extend, delivered}
+use Rattle.parameter.specs.Parameter.{Param, twoAt, runOctets, runLength}
 use Rattle.parameter.proofs.RoundTrip.{run-length, run-octets-append, run-length-append}
-use Rattle.address.specs.Address.{title, code, sub, present, subParam, readAddress, writeAddress}
+use Rattle.address.specs.Address.{title, code, present, subParam, readAddress, writeAddress}
 use Rattle.address.specs.Parts.{keptTitle, keptCode, keptSub, keptPieces}
 use Rattle.address.specs.Plan.{Ready, headOctets, wireOf, Plan, othersOctets}
 use Rattle.address.specs.declared.parts.Parts.{Parts}
-use Rattle.address.proofs.Planning.{paramOf, codeParam, subOne, code-params, sub-params, rest, kept-written, others-sum}
+use Rattle.address.proofs.Planning.{paramOf, codeParam, subOne, rest, kept-written, others-sum}
 use Rattle.address.proofs.Plans.{plan-octets, wire-length}
 use Rattle.address.proofs.Copying.{othersOf, done-octets, lent-length}
 

@@ -4,26 +4,25 @@ use mathlib.Core.Path.{_≡_, refl, sym, ap, _∙_}
 use mathlib.Core.Bool.{Bool, true, false}
 use mathlib.Core.Logic.{⊎-elim}
 use mathlib.Core.Option.{none, some}
-use mathlib.Core.List.{List, [], _∷_, _++_, map}
+use mathlib.Core.List.{List, [], _∷_, map}
 use native.Mathlib.Omega.{arith}
 use borrow.Author.Tests.{le-leb, lt-leb}
-use lib.Dec.{eqb}
 use lib.ListN.{length, getD, drop}
-use Rattle.bcd.specs.Outcome.{Outcome, accepted, refused, pick, after, mapped, each, All, most}
+use Rattle.bcd.specs.Outcome.{accepted, refused, pick, mapped, All, most}
 use Rattle.bcd.specs.Digits.{Alphabet}
 use Rattle.bcd.proofs.Outcomes.{never, le-or-lt, bounded-within, bounded-beyond}
 use Rattle.bcd.specs.declared.error.Refusal.{Refusal}
-use Rattle.parameter.specs.Parameter.{Param, paddedLength, runLength, twoAt, fourIn}
+use Rattle.parameter.specs.Parameter.{runLength, twoAt, fourIn}
 use Rattle.parameter.specs.Walk.{valued, places, parameters}
 use Rattle.parameter.specs.declared.Place.{Place}
 use Rattle.parameter.proofs.Walking.{places-inside}
 use Rattle.parameter.proofs.Structure.{places-parameters}
-use Rattle.address.specs.Address.{title, code, sub, other, pieceIn, asTitle, asCode, asSub, last, othersIn, routingIn, addressWith, addressIn, readAddress, pieces}
+use Rattle.address.specs.Address.{title, code, asTitle, asCode, asSub, last, othersIn, routingIn, addressWith, addressIn, readAddress, pieces}
 use Rattle.address.specs.Records.{routingOf}
 use Rattle.address.specs.declared.RoutingIndicator.{RoutingIndicator}
 use Rattle.address.specs.declared.Routing.{Routing}
 use Rattle.address.specs.declared.Routing.the-variants as R
-use Rattle.address.specs.Parts.{nothing, notedTitle, notedCode, notedSsn, notedOther, noted, noteAll, judged, titleAt, keptTitle, keptCode, keptSub, isOther, otherPlaces, keptPieces, keptPlace}
+use Rattle.address.specs.Parts.{nothing, notedTitle, notedCode, notedSsn, notedOther, noted, noteAll, judged, titleAt, keptTitle, keptCode, keptSub, otherPlaces, keptPieces, keptPlace}
 use Rattle.address.specs.declared.parts.Parts.{Parts}
 use Rattle.address.proofs.Keeping.{kinds, Inside, value-length, pieceBy, pieceAt, pieces-judged, judged-mapped, last-holds}
 

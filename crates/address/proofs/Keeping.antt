@@ -1,26 +1,24 @@
 -- What the walk keeps is what reading gives: the first sub-parameter that is too short is the refusal, the last of each
 -- kind holds, and the others stay in order.
 use Prim.Native.Nat.{ℕ, _+_, _-_, _≤_, _<_}
-use mathlib.Core.Path.{_≡_, refl, sym, ap, ap₂, _∙_}
+use mathlib.Core.Path.{_≡_, refl, ap, _∙_}
 use mathlib.Core.Bool.{Bool, true, false}
-use mathlib.Core.Logic.{_⊎_, inl, inr, ⊎-elim}
+use mathlib.Core.Logic.{_⊎_, inl, inr}
 use mathlib.Core.Option.{Option, none, some}
 use mathlib.Core.List.{List, [], _∷_, _++_, map}
 use native.Mathlib.Omega.{arith}
-use borrow.Author.Tests.{le-leb, lt-leb, lt-ltb, le-ltb, eq-eqb, ne-eqb, eqb-true, eqb-false}
-use lib.Dec.{leb, ltb, eqb}
-use lib.ListN.{length, getD, take, drop, length-take, length-drop}
-use Rattle.bcd.specs.Outcome.{Outcome, accepted, refused, pick, after, mapped, each, All, most}
+use borrow.Author.Tests.{le-leb, lt-leb, lt-ltb, le-ltb, ne-eqb, eqb-true}
+use lib.Dec.{eqb}
+use lib.ListN.{length, getD, drop, length-take, length-drop}
+use Rattle.bcd.specs.Outcome.{Outcome, accepted, refused, pick, after, mapped, each, All}
 use Rattle.bcd.specs.Digits.{Alphabet}
-use Rattle.bcd.proofs.Outcomes.{le-or-lt, bounded-within, mapped-mapped}
-use Rattle.parameter.specs.Parameter.{Param, paddedLength, runLength, twoAt, fourIn}
-use Rattle.parameter.specs.Walk.{valued, places, parameters}
+use Rattle.bcd.proofs.Outcomes.{le-or-lt}
+use Rattle.parameter.specs.Parameter.{fourIn}
+use Rattle.parameter.specs.Walk.{valued}
 use Rattle.parameter.specs.declared.Place.{Place}
-use Rattle.parameter.proofs.Walking.{places-inside}
-use Rattle.parameter.proofs.Structure.{places-parameters}
-use Rattle.address.specs.Address.{titleIn, fourOctets, Piece, title, code, sub, other, pieceIn, asTitle, asCode, asSub, later, last, othersIn, addressWith, addressIn, readAddress, pieces}
+use Rattle.address.specs.Address.{titleIn, fourOctets, Piece, title, code, sub, other, pieceIn, later, last}
 use Rattle.address.specs.Records.{flagged}
-use Rattle.address.specs.Parts.{keptPlace, sooner, nothing, notedTitle, notedCode, notedSsn, notedOther, noted, noteAll, shortBy, shortRefusal, judged, titleAt, keptTitle, keptCode, keptSub, isOther, otherPlaces, keptPieces}
+use Rattle.address.specs.Parts.{keptPlace, sooner, notedTitle, notedCode, notedSsn, notedOther, noted, noteAll, shortBy, shortRefusal, judged, titleAt}
 use Rattle.address.specs.declared.parts.Kept.{Kept}
 use Rattle.address.specs.declared.parts.Parts.{Parts}
 

@@ -13,3 +13,4 @@ pub mod Putting
 pub mod Titling
 pub mod Copying
 pub mod Delivering
+pub mod TitleRecords

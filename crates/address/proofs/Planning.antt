@@ -1,21 +1,21 @@
 -- An address value that was interpreted: how many octets it is written as, and when it is refused.
-use Prim.Native.Nat.{ℕ, _+_, _-_, _*_, _/_, _%_, _≤_, _<_}
-use mathlib.Core.Path.{_≡_, refl, sym, ap, ap₂, _∙_, subst}
+use Prim.Native.Nat.{ℕ, _+_, _-_, _*_, _/_, _≤_, _<_}
+use mathlib.Core.Path.{_≡_, refl, sym, ap, ap₂, _∙_}
 use mathlib.Core.Bool.{Bool, true, false}
 use mathlib.Core.Logic.{_⊎_, inl, inr}
 use mathlib.Core.Option.{Option, none, some}
 use mathlib.Core.List.{List, [], _∷_, _++_, map, append-nil}
 use native.Mathlib.Omega.{arith}
-use borrow.Author.Tests.{le-leb, lt-leb, lt-ltb, leb-true}
-use lib.Dec.{leb, eqb}
+use borrow.Author.Tests.{lt-ltb, leb-true}
+use lib.Dec.{leb}
 use lib.ListN.{length, getD, take, drop, length-drop}
 use lib.Seq.{take-all}
 use Rattle.bcd.specs.Outcome.{Outcome, accepted, refused, pick, after, mapped, each, All, Octets, most}
 use Rattle.bcd.specs.Digits.{builtIn, digitsIn, readDigits, writeDigits}
-use Rattle.bcd.proofs.Outcomes.{accepted-inj, never, le-or-lt, mapped-inv, demand-inv, bounded-within, each-append, each-inv}
+use Rattle.bcd.proofs.Outcomes.{accepted-inj, never, le-or-lt, mapped-inv, demand-inv, bounded-within, each-append}
 use Rattle.bcd.proofs.Characters.{builtIn-lawful}
 use Rattle.bcd.proofs.Writable.{write-inv}
-use Rattle.parameter.specs.Parameter.{Param, two, four, fourIn, paddedLength, runOctets, runLength, mostValue, twoAt, roundUp}
+use Rattle.parameter.specs.Parameter.{Param, four, runLength, twoAt}
 use Rattle.parameter.specs.Walk
 use Rattle.parameter.specs.Walk.{valued}
 use Rattle.parameter.specs.declared.Place.{Place}
@@ -23,16 +23,14 @@ use Rattle.parameter.proofs.Walking.{places-inside}
 use Rattle.parameter.proofs.Structure.{places-parameters}
 use Rattle.parameter.proofs.RoundTrip.{run-length-append}
 use Rattle.parameter.proofs.Reading.{parameters-room}
-use Rattle.address.specs.Address.{Address, titleOctets, writeTitle, Piece, title, code, sub, other, present, bit, addressWith, addressIn, readAddress, indicator, pieces, subParam, sized, writeAddress}
+use Rattle.address.specs.Address.{titleOctets, writeTitle, title, code, sub, other, present, subParam}
 use Rattle.address.specs.Records.{flagged}
-use Rattle.address.specs.Parts.{nothing, notedTitle, notedCode, notedSsn, notedOther, noted, noteAll, sooner, judged, shortRefusal, titleAt, keptTitle, keptCode, keptSub, otherPlaces, keptPieces}
-use Rattle.address.specs.Plan.{HeldIn, Walked, wireOf, Plan}
+use Rattle.address.specs.Parts.{nothing, noted, noteAll, sooner, titleAt, keptTitle, keptCode, keptSub, otherPlaces, keptPieces}
+use Rattle.address.specs.Plan.{HeldIn, Walked}
 use Rattle.address.specs.declared.parts.Kept.{Kept}
 use Rattle.address.specs.declared.parts.Parts.{Parts}
-use Rattle.address.proofs.Keeping.{kinds, Inside, value-length, pieceAt, judged-after}
-use Rattle.address.proofs.Interpreting.{by, kept-pieces, read-parts, others-length}
-use Rattle.address.proofs.Rewriting.{addressOctets, octets-length}
-use Rattle.address.proofs.Writable.{subs-write}
+use Rattle.address.proofs.Keeping.{kinds, Inside}
+use Rattle.address.proofs.Interpreting.{by, others-length}
 
 pub each-one : {A B : Type 0} (f : A → Outcome (List B)) (x : A) → each f (x ∷ []) ≡ f x
 each-one {A} {B} f x = go (f x)
@@ -77,7 +75,7 @@ read-digits : (xs : List ℕ) (count : ℕ) → length xs ≤ most → after (re
 unfolding readDigits
 read-digits xs count h = ap (λ (o : Outcome (List ℕ)). after o (writeDigits builtIn)) (bounded-within xs (accepted (digitsIn builtIn xs count)) h)
 
-whole-part : (a : ℕ) (v : List ℕ) → take (length v - a) (drop a v) ≡ drop a v
+pub whole-part : (a : ℕ) (v : List ℕ) → take (length v - a) (drop a v) ≡ drop a v
 whole-part a v = take-all (length v - a) (drop a v) (omega (arith, length-drop a v))
 
 pub read-part :

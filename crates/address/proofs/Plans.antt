@@ -1,7 +1,7 @@
 -- An address value that was interpreted, read and written again: refused, or these octets.
 use Prim.Native.Nat.{ℕ, _+_, _*_, _/_, _%_, _^_, _≤_, _<_}
-use mathlib.Core.Path.{_≡_, refl, sym, ap, _∙_, subst}
-use mathlib.Core.Bool.{Bool, true, false}
+use mathlib.Core.Path.{_≡_, sym, ap, _∙_}
+use mathlib.Core.Bool.{true, false}
 use mathlib.Core.Logic.{_⊎_, inl, inr}
 use mathlib.Core.List.{List, [], _∷_, _++_, map}
 use native.Mathlib.Omega.{arith}
@@ -20,8 +20,7 @@ use Rattle.address.specs.Plan.{Walked, wireOf, Plan}
 use Rattle.address.specs.declared.parts.Parts.{Parts}
 use Rattle.address.proofs.Keeping.{pieceAt}
 use Rattle.address.proofs.Interpreting.{kept-pieces, read-parts}
-use Rattle.address.proofs.Planning.{rest, rest-length, kept-written, kept-refused, others-sum, others-small}
-use Rattle.address.proofs.Rewriting.{addressOctets, octets-length}
+use Rattle.address.proofs.Planning.{rest, rest-length, kept-written, kept-refused, others-sum}
 use Rattle.address.proofs.Writable.{subs-write}
 
 bits : (n : ℕ) → n / 1 % 2 + n / 2 % 2 * 2 + n / 4 % 2 * 4 ≡ n % 8

@@ -1,24 +1,21 @@
 -- Sub-parameters that are written from the octets of an address value, one by one.
-use Prim.Native.Nat.{ℕ, _+_, _-_, _*_, _/_, _%_, _≤_, _<_, min}
+use Prim.Native.Nat.{ℕ, _+_, _-_, _*_, _/_, _%_, _≤_, _<_}
 use mathlib.Core.Path.{_≡_, refl, sym, ap, _∙_}
 use mathlib.Core.Bool.{Bool, true, false}
 use mathlib.Core.List.{List, [], _∷_, _++_, append-nil}
 use native.Mathlib.Omega.{arith}
-use lib.ListN.{length, getD, set, take, drop, length-append, length-take, length-drop}
-use lib.Seq.{take-take, take-add, take-suc, set-at, set-append-left, getD-at, length-take-le}
-use native.Mathlib.Numerals.{add-one}
+use lib.ListN.{length, getD, set, take, drop, length-take, length-drop}
+use lib.Seq.{take-take, length-take-le}
 use Rattle.bcd.specs.Outcome.{Outcome, accepted, mapped, each, Octets, deliver}
-use Rattle.bcd.specs.Digits.{halves, pack, builtIn, digitsIn, writeDigits}
-use Rattle.bcd.proofs.Outcomes.{accepted-inj, mapped-inv, deliver-buffer, all-take, all-drop}
+use Rattle.bcd.specs.Digits.{builtIn}
+use Rattle.bcd.proofs.Outcomes.{accepted-inj, deliver-buffer, all-take, all-drop}
 use Rattle.bcd.proofs.Writing.{begin, untouched, delivered}
-use Rattle.bcd.proofs.Reading.{digits-length, digits-most}
-use Rattle.bcd.proofs.Rewriting.{rewritten-octets, octets-even, octets-odd}
-use Rattle.parameter.specs.Parameter.{Param, two, four, fourIn, twoAt, paddedLength, paramOctets, runOctets, runLength, mostValue, encodeParam}
+use Rattle.parameter.specs.Parameter.{Param, four, fourIn, twoAt, paddedLength, paramOctets, runOctets, runLength, mostValue, encodeParam}
 use Rattle.parameter.specs.Walk.{valued}
 use Rattle.parameter.proofs.RoundTrip.{octets-length}
 use Rattle.parameter.proofs.Encoding.{encode-within}
 use Rattle.parameter.proofs.Running.{part-of}
-use Rattle.address.specs.Address.{titleOctets, writeTitle, title, code, sub, present, subParam}
+use Rattle.address.specs.Address.{title, code, sub, present, subParam}
 use Rattle.address.specs.Records.{flagged}
 use Rattle.address.specs.Parts.{titleAt, keptTitle, keptCode, keptSub}
 use Rattle.address.specs.Plan.{Ready}

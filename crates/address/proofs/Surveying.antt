@@ -6,7 +6,7 @@ use mathlib.Core.List.{List, [], _∷_, _++_}
 use native.Mathlib.Omega.{arith}
 use lib.Dec.{eqb}
 use lib.ListN.{length}
-use Rattle.bcd.specs.Outcome.{Outcome, accepted, refused, pick, mapped, bounded, most}
+use Rattle.bcd.specs.Outcome.{accepted, refused, pick, mapped, bounded, most}
 use Rattle.bcd.proofs.Outcomes.{bounded-within}
 use Rattle.parameter.specs.Parameter.{paddedLength}
 use Rattle.parameter.specs.Walk.{found, stepAt, places}

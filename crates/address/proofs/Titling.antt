@@ -3,12 +3,12 @@ use Prim.Native.Nat.{ℕ, _+_, _-_, _*_, _/_, _%_, _≤_, _<_, min}
 use mathlib.Core.Path.{_≡_, refl, sym, ap, _∙_}
 use mathlib.Core.List.{List, [], _∷_, _++_, append-assoc}
 use native.Mathlib.Omega.{arith}
-use lib.ListN.{length, getD, set, take, drop, replicate, length-append, length-take, length-drop}
-use lib.Seq.{take-add, take-suc, set-at, set-append-left, getD-at, length-take-le}
+use lib.ListN.{length, getD, set, take, drop, replicate, length-append, length-drop}
+use lib.Seq.{take-add, take-suc, set-at, getD-at, length-take-le}
 use native.Mathlib.Numerals.{add-one}
 use Rattle.bcd.specs.Outcome.{Outcome, accepted, mapped, deliver}
 use Rattle.bcd.specs.Digits.{halves, pack, builtIn, digitsIn, writeDigits}
-use Rattle.bcd.proofs.Outcomes.{accepted-inj, mapped-inv}
+use Rattle.bcd.proofs.Outcomes.{mapped-inv}
 use Rattle.bcd.proofs.Reading.{digits-length, digits-most}
 use Rattle.bcd.proofs.Rewriting.{rewritten-octets, octets-even, octets-odd, halves-packed}
 use Rattle.parameter.specs.Parameter.{Param, two, paddedLength, paramOctets, runOctets, runLength, mostValue, encodeParam}

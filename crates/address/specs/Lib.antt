@@ -2,3 +2,4 @@ pub mod Address
 pub mod Records
 pub mod Parts
 pub mod Plan
+pub mod Titles

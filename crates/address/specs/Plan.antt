@@ -5,7 +5,7 @@ use mathlib.Core.Path.{_≡_}
 use mathlib.Core.Bool.{true, false}
 use mathlib.Core.List.{List, [], _++_, map}
 use lib.ListN.{length, getD}
-use Rattle.bcd.specs.Outcome.{Outcome, accepted, refused, after, mapped, each, Octets, most}
+use Rattle.bcd.specs.Outcome.{Outcome, accepted, refused, after, each, Octets, most}
 use Rattle.bcd.specs.Answers.{refusalOf}
 use Rattle.bcd.specs.Digits.{builtIn}
 use Rattle.parameter.specs.Parameter.{Param, two, twoAt, runOctets, runLength, mostValue}
@@ -16,8 +16,8 @@ use Rattle.address.specs.Address.{subParam, readAddress, writeAddress}
 use Rattle.address.specs.Parts.{nothing, noteAll, otherPlaces, keptPieces}
 use Rattle.address.specs.declared.parts.Kept.{Kept}
 use Rattle.address.specs.declared.parts.Parts.{Parts}
-use Rattle.address.specs.declared.rewrite.Planned.{Planned}
-use Rattle.address.specs.declared.rewrite.Planned.the-variants as P
+use Rattle.address.specs.declared.interpret.Planned.{Planned}
+use Rattle.address.specs.declared.interpret.Planned.the-variants as P
 
 -- A sub-parameter that is kept lies inside the value, and has so many octets or more.
 abbrev pub HeldIn : List ℕ → (least : ℕ) → Kept → Type 0

@@ -1,12 +1,9 @@
 // An address value read and written again, straight from its octets: what the settled form needs. One walk interprets
 // the value, a second one writes the other sub-parameters.
-use crate::Routing;
-use crate::RoutingIndicator;
-use crate::be16;
+use crate::interpret::Planned;
+use crate::interpret::plan;
 use crate::parts::Kept;
 use crate::parts::Parts;
-use crate::parts::Surveyed;
-use crate::parts::survey;
 use crate::smaller;
 use bcd::error::Counted;
 use bcd::error::Refusal;
@@ -18,122 +15,14 @@ ghost use mathlib.Core.Path.{_≡_};
 ghost use mathlib.Core.List.{_∷_, [], _++_, map};
 ghost use Prim.Native.Nat.{_+_, _%_, _≤_, _<_};
 ghost use lib.ListN.{length, getD, set, drop};
-ghost use Rattle.bcd.specs.Outcome.{accepted, pick, after, mapped, each, most, deliver};
-ghost use Rattle.bcd.specs.Answers.{numbered, countedOf};
+ghost use Rattle.bcd.specs.Outcome.{accepted, after, mapped, each, deliver};
+ghost use Rattle.bcd.specs.Answers.{countedOf};
 ghost use Rattle.bcd.specs.Digits.{builtIn};
 ghost use Rattle.parameter.specs.Parameter.{runOctets, runLength, mostValue};
 ghost use Rattle.parameter.specs.Walk.{valued};
 ghost use Rattle.address.specs.Address.{title, code, sub, present, subParam, readAddress, writeAddress};
-ghost use Rattle.address.specs.Parts.{shortNumbers, titleAt, keptTitle, keptCode, keptSub, otherPlaces, isOther};
-ghost use Rattle.address.specs.Plan.{HeldIn, Ready, Walked, Plan, PlanOf, headOctets, othersOctets};
-
-// The parts of an address value that can be written, and how many octets it is then; or why it cannot.
-pub(crate) enum Planned {
-    Plan(Parts, usize),
-    Refused(Refusal),
-}
-
-// Why a sub-parameter is too short: a title has eight octets, a point code and an SSN four.
-fn too_short(place: Place) -> Refusal
-    ensures { λ r. ⌜ numbered r ≡ shortNumbers place ⌝ }
-{
-    let tag = place.tag;
-    let length = place.length;
-    if tag == tags::GLOBAL_TITLE {
-        return Refusal::TooShort {
-            expected: 8,
-            actual: length,
-        };
-    }
-    Refusal::ParameterTooShort {
-        tag,
-        expected: 4,
-        actual: length,
-    }
-}
-
-// What a title, given by its value, takes on the wire. 9.
-fn measure_title(value: &[u8]) -> Counted
-    requires { ⌜ 8 ≤ length (now value) ⌝ }
-    requires { ⌜ length (now value) ≤ most ⌝ }
-    ensures { λ r. ⌜ countedOf r ≡ mapped runLength (subParam builtIn (title (titleAt builtIn (now (value .entry))))) ⌝ }
-{
-    match bcd::rewrite::rewritten_digits_length(&value[8..], value[4]) {
-        Counted::Count(n) => Counted::Count((n + 15) / 4 * 4),
-        Counted::Refused(r) => Counted::Refused(r),
-    }
-}
-
-// What the title takes on the wire, if there is one. 9.
-fn title_length(value: &[u8], kept: Kept) -> Counted
-    requires { ⌜ HeldIn (now value) 8 kept ⌝ }
-    requires { ⌜ length (now value) ≤ most ⌝ }
-    ensures { λ r. ⌜ countedOf r ≡ mapped runLength (each (subParam builtIn) (present title (keptTitle builtIn (now (value .entry)) kept))) ⌝ }
-{
-    if kept.there {
-        let place = kept.place;
-        let start = place.start;
-        let end = start + place.length;
-        return measure_title(&value[start..end]);
-    }
-    Counted::Count(0)
-}
-
-// What a point code or an SSN takes on the wire.
-fn four_length(kept: Kept) -> usize
-    ensures { λ r. ⌜ r ≡ pick (kept .there) 8 0 ⌝ }
-{
-    if kept.there { 8 } else { 0 }
-}
-
-// The length of what is written, of sub-parameters that were walked. Each sub-parameter's 1 or 6, then 9, then 10.
-fn measure(tag: u16, value: &[u8], parts: Parts) -> Planned
-    requires { ⌜ Walked (now value) parts ⌝ }
-    ensures { λ r. ⌜ PlanOf tag (now (value .entry)) r ⌝ }
-{
-    let short = parts.short;
-    if short.there {
-        let place = short.place;
-        return Planned::Refused(too_short(place));
-    }
-    let kept = parts.title;
-    match title_length(value, kept) {
-        Counted::Refused(r) => Planned::Refused(r),
-        Counted::Count(n) => {
-            let code = parts.code;
-            let ssn = parts.ssn;
-            let length = 4 + n + four_length(code) + four_length(ssn) + parts.other_length;
-            if 65531 < length {
-                return Planned::Refused(Refusal::ValueTooLong { tag, length });
-            }
-            Planned::Plan(parts, length)
-        }
-    }
-}
-
-// Interprets an address value: 12, 1, 8, 5 or 6 of the walk, each sub-parameter's 1 or 6, then 9, 10.
-fn plan(tag: u16, value: &[u8]) -> Planned
-    ensures { λ r. ⌜ PlanOf tag (now (value .entry)) r ⌝ }
-{
-    let n = value.len();
-    if 1048576 < n {
-        return Planned::Refused(Refusal::TooManyOctets(n));
-    }
-    if n < 4 {
-        return Planned::Refused(Refusal::TooShort {
-            expected: 4,
-            actual: n,
-        });
-    }
-    let routing = be16(value[0], value[1]);
-    let Routing::Indicator(_) = RoutingIndicator::from_u16(routing) else {
-        return Planned::Refused(Refusal::InvalidRoutingIndicator(routing));
-    };
-    match survey(value) {
-        Surveyed::Refused(r) => Planned::Refused(r),
-        Surveyed::Parts(parts) => measure(tag, value, parts),
-    }
-}
+ghost use Rattle.address.specs.Parts.{titleAt, keptTitle, keptCode, keptSub, otherPlaces, isOther};
+ghost use Rattle.address.specs.Plan.{HeldIn, Ready, Walked, Plan, headOctets, othersOctets};
 
 // How many octets an address value has when it is read and written again. Reading's refusals, then 9, then 10.
 pub fn rewritten_length(tag: u16, value: &[u8]) -> Counted
@@ -170,7 +59,8 @@ fn put_title(value: &[u8], out: &mut [u8]) -> usize
     requires { ⌜ Ready (subParam builtIn (title (titleAt builtIn (now value)))) (now out) ⌝ }
     ensures { λ r. ⌜ record { answer = accepted r; buffer = now (out .exit) } ≡ deliver (mapped runOctets (subParam builtIn (title (titleAt builtIn (now (value .entry)))))) (now (out .entry)) ⌝ }
 {
-    let digits = smaller(value[4] as usize, 2 * (value.len() - 8));
+    let count = value[4] as usize;
+    let digits = smaller(count, 2 * (value.len() - 8));
     let octets = (digits + 1) / 2;
     let end = 8 + octets;
     parameter::encode(tags::GLOBAL_TITLE, &value[..end], out);

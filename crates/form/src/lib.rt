@@ -160,7 +160,7 @@ pub fn settle(input: &[u8], out: &mut [u8]) -> Counted
     ensures { λ r. ⌜ record { answer = countedOf r; buffer = now (out .exit) } ≡ deliver (settled builtIn (now (input .entry))) (now (out .entry)) ⌝ }
 {
     match CommonHeader::decode(input) {
-        HeaderRead::Refused(r) => Counted::Refused(r),
+        HeaderRead::Refused(unread) => Counted::Refused(unread),
         HeaderRead::Header(h) => match measure(input) {
             Counted::Refused(refusal) => Counted::Refused(refusal),
             Counted::Count(run) => {

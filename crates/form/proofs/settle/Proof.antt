@@ -47,8 +47,8 @@ small c =
 decode-requires : tie.Need-decode-requires
 decode-requires c κs = search needs
 
-enum-known-r : tie.Need-enum-known-r
-enum-known-r c = search needs
+enum-known-unread : tie.Need-enum-known-unread
+enum-known-unread c = search needs
 
 enum-known-h : tie.Need-enum-known-h
 enum-known-h c = search needs
@@ -103,7 +103,7 @@ returns-2 : tie.Need-returns-2
 returns-2 c =
     let d = c .before .before .before in
     let s = d .before .before .before in
-    rw (settled-refused builtIn (s .args .input .now) _ _ (sym (d .decode .ensures) ∙ ap headerReadOf (c .before .r .given .1))) (deliver-refused _ _ (s .args .out .now))
+    rw (settled-refused builtIn (s .args .input .now) _ _ (sym (d .decode .ensures) ∙ ap headerReadOf (c .before .unread .given .1))) (deliver-refused _ _ (s .args .out .now))
 
 returns-3 : tie.Need-returns-3
 returns-3 c =
@@ -134,7 +134,7 @@ settle-spec =
     tie.close
     (tie.spec
     decode-requires
-    enum-known-r
+    enum-known-unread
     enum-known-h
     measure-requires
     enum-known-refusal

@@ -1,6 +1,6 @@
 -- `address::parts::survey` meets its contract: the loop has walked n sub-parameters and noted each.
 use borrow.Author.Needs.{needs}
-use Prim.Native.Nat.{_-_, _≤_}
+use Prim.Native.Nat.{_-_}
 use mathlib.Core.Path.{_≡_, sym, ap, _∙_}
 use lib.ListN.{length}
 use Rattle.bcd.proofs.Outcomes.{bounded-within, bounded-beyond}

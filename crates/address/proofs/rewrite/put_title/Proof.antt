@@ -19,11 +19,11 @@ few c = let k = c .before .shared-slice-known2 .given 4 in omega (arith, c .smal
 room : (c : tie.After-smaller) → paddedLength (8 + (c .smaller .result + 1) / 2) ≤ length (c .before .before .before .before .args .out .now)
 room c = let s = c .before .before .before .before in title-room (s .args .value .now) (s .pre .0) (c .smaller .result) (c .smaller .ensures) (s .args .out .now) (s .pre .1)
 
-shared-slice-read-smaller : tie.Need-shared-slice-read-smaller
-shared-slice-read-smaller c = search needs
+shared-slice-read-count : tie.Need-shared-slice-read-count
+shared-slice-read-count c = search needs
 
-cast-smaller : tie.Need-cast-smaller
-cast-smaller c = let k = c .shared-slice-known2 .given 4 in omega arith
+cast-count : tie.Need-cast-count
+cast-count c = let k = c .shared-slice-known2 .given 4 in omega arith
 
 sub-smaller : tie.Need-sub-smaller
 sub-smaller c = search needs
@@ -101,8 +101,8 @@ pub put-title-spec : {M : Type 1} → statement M
 put-title-spec =
     tie.close
     (tie.spec
-    shared-slice-read-smaller
-    cast-smaller
+    shared-slice-read-count
+    cast-count
     sub-smaller
     mul-smaller
     smaller-requires

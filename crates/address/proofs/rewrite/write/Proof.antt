@@ -1,17 +1,15 @@
 -- `address::rewrite::write` meets its contract: the buffer after each part.
 use borrow.Author.Needs.{needs}
-use Prim.Native.Nat.{ℕ, _+_, _-_, _≤_}
-use mathlib.Core.Path.{_≡_, refl, sym, ap, _∙_}
+use Prim.Native.Nat.{ℕ, _+_, _-_}
+use mathlib.Core.Path.{refl}
 use mathlib.Core.List.{List, _++_}
 use native.Mathlib.Omega.{arith}
 use lib.ListN.{length}
 use borrow.Rule.Slice.PartMut.{putMid}
-use Rattle.bcd.specs.Digits.{builtIn}
-use Rattle.bcd.specs.Outcome.{accepted, each}
 use Rattle.bcd.proofs.Writing.{Begun, begin}
-use Rattle.parameter.specs.Parameter.{Param, runOctets, runLength}
-use Rattle.address.specs.Address.{title, code, sub, present, subParam}
-use Rattle.address.specs.Parts.{keptTitle, keptCode, keptSub}
+use Rattle.parameter.specs.Parameter.{Param, runOctets}
+use Rattle.address.specs.Address.{title, code}
+use Rattle.address.specs.Parts.{keptCode, keptSub}
 use Rattle.address.specs.Plan.{headOctets}
 use Rattle.address.proofs.Planning.{sound, code-params, sub-params}
 use Rattle.address.proofs.Copying.{lent-length}

@@ -1,8 +1,7 @@
 -- `address::rewrite::write_title` meets its contract.
 use borrow.Author.Needs.{needs}
-use mathlib.Core.Path.{sym, ap, _∙_}
 use native.Mathlib.Omega.{arith}
-use Rattle.parameter.proofs.Running.{part-of, part-length}
+use Rattle.parameter.proofs.Running.{part-length}
 use Rattle.address.proofs.Putting.{title-absent, title-put, title-ready}
 use Rattle.address.proofs.rewrite.write_title.Statement.{statement}
 use Rattle.address.proofs.rewrite.write_title.Tie as tie

@@ -3,7 +3,6 @@ use borrow.Author.Needs.{needs}
 use Prim.Native.Nat.{_+_, _*_, _-_, _/_, _≤_}
 use mathlib.Core.Path.{_≡_}
 use native.Mathlib.Omega.{arith}
-use lib.ListN.{length, getD}
 use Rattle.bcd.proofs.Halves.{halves-low, halves-high}
 use Rattle.bcd.proofs.Rewriting.{Known, known-none, known-octet, known-low, known-written, unknown-refused}
 use Rattle.bcd.proofs.rewrite.unknown.Statement.{statement}

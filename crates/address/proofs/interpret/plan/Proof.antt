@@ -1,4 +1,4 @@
--- `address::rewrite::plan` meets its contract.
+-- `address::interpret::plan` meets its contract.
 use borrow.Author.Needs.{needs}
 use Prim.Native.Nat.{ℕ, _≤_, _<_}
 use mathlib.Core.List.{[], _∷_}
@@ -13,8 +13,8 @@ use Rattle.address.specs.Parts.{nothing, noteAll, surveyedOf}
 use Rattle.address.specs.declared.parts.Surveyed.{Surveyed}
 use Rattle.address.proofs.Interpreting.{read-beyond, read-few, read-unrouted, read-unwalked, routing-known, routing-unknown}
 use Rattle.address.proofs.Planning.{mapped-refused, walked}
-use Rattle.address.proofs.rewrite.plan.Statement.{statement}
-use Rattle.address.proofs.rewrite.plan.Tie as tie
+use Rattle.address.proofs.interpret.plan.Statement.{statement}
+use Rattle.address.proofs.interpret.plan.Tie as tie
 
 -- the routing indicator is that of the definition
 routed : (c : tie.After-be16) → c .be16 .result ≡ twoAt (c .before .before .before .before .before .before .args .value .now) 0

@@ -1,7 +1,7 @@
--- `address::rewrite::measure_title` meets its contract.
+-- `address::interpret::measure_title` meets its contract.
 use borrow.Author.Needs.{needs}
 use Prim.Native.Nat.{ℕ, _+_, _*_, _/_}
-use mathlib.Core.Path.{_≡_, refl, sym, ap, _∙_}
+use mathlib.Core.Path.{_≡_, sym, ap, _∙_}
 use native.Mathlib.Omega.{arith}
 use lib.ListN.{length, getD, drop}
 use Rattle.bcd.specs.Outcome.{mapped}
@@ -9,8 +9,8 @@ use Rattle.bcd.specs.Answers.{countedOf}
 use Rattle.bcd.specs.Digits.{builtIn, digitsIn, writeDigits}
 use Rattle.bcd.specs.declared.error.Counted.{Counted}
 use Rattle.address.proofs.Planning.{title-measured, read-part, digits-small}
-use Rattle.address.proofs.rewrite.measure_title.Statement.{statement}
-use Rattle.address.proofs.rewrite.measure_title.Tie as tie
+use Rattle.address.proofs.interpret.measure_title.Statement.{statement}
+use Rattle.address.proofs.interpret.measure_title.Tie as tie
 
 -- what the digits' answer is
 answered : (c : tie.After-rewritten-digits-length) (r : Counted) → c .rewritten-digits-length .result ≡ r

@@ -1,11 +1,11 @@
--- `address::rewrite::measure` meets its contract.
+-- `address::interpret::measure` meets its contract.
 use borrow.Author.Needs.{needs}
-use Prim.Native.Nat.{ℕ, _+_, _≤_}
+use Prim.Native.Nat.{ℕ, _≤_}
 use mathlib.Core.Bool.{Bool, true, false}
 use mathlib.Core.List.{List}
 use mathlib.Core.Path.{_≡_, sym, ap, _∙_}
 use native.Mathlib.Omega.{arith}
-use Rattle.bcd.specs.Outcome.{Outcome, refused, pick, mapped, each, most}
+use Rattle.bcd.specs.Outcome.{refused, pick, mapped, each, most}
 use Rattle.bcd.specs.Answers.{countedOf}
 use Rattle.bcd.specs.Digits.{builtIn}
 use Rattle.bcd.specs.declared.error.Counted.{Counted}
@@ -14,8 +14,8 @@ use Rattle.address.specs.Address.{title, present, subParam}
 use Rattle.address.specs.Parts.{keptTitle}
 use Rattle.address.proofs.Planning.{sound, others-small, kept-small, mapped-refused}
 use Rattle.address.proofs.Plans.{plan-short, plan-unknown, plan-long, plan-made}
-use Rattle.address.proofs.rewrite.measure.Statement.{statement}
-use Rattle.address.proofs.rewrite.measure.Tie as tie
+use Rattle.address.proofs.interpret.measure.Statement.{statement}
+use Rattle.address.proofs.interpret.measure.Tie as tie
 
 -- the title's answer
 answered : (c : tie.After-title-length) (r : Counted) → c .title-length .result ≡ r

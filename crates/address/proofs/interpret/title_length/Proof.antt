@@ -1,6 +1,6 @@
--- `address::rewrite::title_length` meets its contract.
+-- `address::interpret::title_length` meets its contract.
 use borrow.Author.Needs.{needs}
-use mathlib.Core.Path.{refl, sym, ap, _∙_}
+use mathlib.Core.Path.{ap, _∙_}
 use native.Mathlib.Omega.{arith}
 use Rattle.bcd.specs.Outcome.{mapped}
 use Rattle.bcd.specs.Digits.{builtIn}
@@ -9,8 +9,8 @@ use Rattle.parameter.proofs.Running.{part-of, part-length}
 use Rattle.address.specs.Address.{title, subParam}
 use Rattle.address.specs.Parts.{titleAt}
 use Rattle.address.proofs.Planning.{title-there, title-absent}
-use Rattle.address.proofs.rewrite.title_length.Statement.{statement}
-use Rattle.address.proofs.rewrite.title_length.Tie as tie
+use Rattle.address.proofs.interpret.title_length.Statement.{statement}
+use Rattle.address.proofs.interpret.title_length.Tie as tie
 
 add-end : tie.Need-add-end
 add-end c = let t = c .before .before in let h = t .before .before .pre .0 (t .if1 .taken) in omega arith

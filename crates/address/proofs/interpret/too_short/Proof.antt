@@ -1,7 +1,7 @@
--- `address::rewrite::too_short` meets its contract.
+-- `address::interpret::too_short` meets its contract.
 use borrow.Author.Tests.{eq-eqb, ne-eqb}
-use Rattle.address.proofs.rewrite.too_short.Statement.{statement}
-use Rattle.address.proofs.rewrite.too_short.Tie as tie
+use Rattle.address.proofs.interpret.too_short.Statement.{statement}
+use Rattle.address.proofs.interpret.too_short.Tie as tie
 
 returns : tie.Need-returns
 returns c = rw (eq-eqb (c .before .args .place .tag) 0x8001 (c .if1 .taken))

@@ -1,0 +1,130 @@
+// An address value interpreted by one walk: the parts that are written, and how many octets they are.
+use crate::Routing;
+use crate::RoutingIndicator;
+use crate::be16;
+use crate::parts::Kept;
+use crate::parts::Parts;
+use crate::parts::Surveyed;
+use crate::parts::survey;
+use bcd::error::Counted;
+use bcd::error::Refusal;
+use parameter::Place;
+use parameter::tags;
+ghost use mathlib.Core.Path.{_≡_};
+ghost use Prim.Native.Nat.{_+_, _≤_, _<_};
+ghost use lib.ListN.{length};
+ghost use Rattle.bcd.specs.Outcome.{pick, mapped, each, most};
+ghost use Rattle.bcd.specs.Answers.{numbered, countedOf};
+ghost use Rattle.bcd.specs.Digits.{builtIn};
+ghost use Rattle.parameter.specs.Parameter.{runLength};
+ghost use Rattle.address.specs.Address.{title, code, present, subParam};
+ghost use Rattle.address.specs.Parts.{shortNumbers, titleAt, keptTitle};
+ghost use Rattle.address.specs.Plan.{HeldIn, Walked, Plan, PlanOf};
+
+// The parts of an address value that can be written, and how many octets it is then; or why it cannot.
+pub(crate) enum Planned {
+    Plan(Parts, usize),
+    Refused(Refusal),
+}
+
+// Why a sub-parameter is too short: a title has eight octets, a point code and an SSN four.
+fn too_short(place: Place) -> Refusal
+    ensures { λ r. ⌜ numbered r ≡ shortNumbers place ⌝ }
+{
+    let tag = place.tag;
+    let length = place.length;
+    if tag == tags::GLOBAL_TITLE {
+        return Refusal::TooShort {
+            expected: 8,
+            actual: length,
+        };
+    }
+    Refusal::ParameterTooShort {
+        tag,
+        expected: 4,
+        actual: length,
+    }
+}
+
+// What a title, given by its value, takes on the wire. 9.
+fn measure_title(value: &[u8]) -> Counted
+    requires { ⌜ 8 ≤ length (now value) ⌝ }
+    requires { ⌜ length (now value) ≤ most ⌝ }
+    ensures { λ r. ⌜ countedOf r ≡ mapped runLength (subParam builtIn (title (titleAt builtIn (now (value .entry))))) ⌝ }
+{
+    match bcd::rewrite::rewritten_digits_length(&value[8..], value[4]) {
+        Counted::Count(n) => Counted::Count((n + 15) / 4 * 4),
+        Counted::Refused(r) => Counted::Refused(r),
+    }
+}
+
+// What the title takes on the wire, if there is one. 9.
+fn title_length(value: &[u8], kept: Kept) -> Counted
+    requires { ⌜ HeldIn (now value) 8 kept ⌝ }
+    requires { ⌜ length (now value) ≤ most ⌝ }
+    ensures { λ r. ⌜ countedOf r ≡ mapped runLength (each (subParam builtIn) (present title (keptTitle builtIn (now (value .entry)) kept))) ⌝ }
+{
+    if kept.there {
+        let place = kept.place;
+        let start = place.start;
+        let end = start + place.length;
+        return measure_title(&value[start..end]);
+    }
+    Counted::Count(0)
+}
+
+// What a point code or an SSN takes on the wire.
+fn four_length(kept: Kept) -> usize
+    ensures { λ r. ⌜ r ≡ pick (kept .there) 8 0 ⌝ }
+{
+    if kept.there { 8 } else { 0 }
+}
+
+// The length of what is written, of sub-parameters that were walked. Each sub-parameter's 1 or 6, then 9, then 10.
+fn measure(tag: u16, value: &[u8], parts: Parts) -> Planned
+    requires { ⌜ Walked (now value) parts ⌝ }
+    ensures { λ r. ⌜ PlanOf tag (now (value .entry)) r ⌝ }
+{
+    let short = parts.short;
+    if short.there {
+        let place = short.place;
+        return Planned::Refused(too_short(place));
+    }
+    let kept = parts.title;
+    match title_length(value, kept) {
+        Counted::Refused(r) => Planned::Refused(r),
+        Counted::Count(n) => {
+            let code = parts.code;
+            let ssn = parts.ssn;
+            let length = 4 + n + four_length(code) + four_length(ssn) + parts.other_length;
+            if 65531 < length {
+                return Planned::Refused(Refusal::ValueTooLong { tag, length });
+            }
+            Planned::Plan(parts, length)
+        }
+    }
+}
+
+// Interprets an address value: 12, 1, 8, 5 or 6 of the walk, each sub-parameter's 1 or 6, then 9, 10.
+pub(crate) fn plan(tag: u16, value: &[u8]) -> Planned
+    ensures { λ r. ⌜ PlanOf tag (now (value .entry)) r ⌝ }
+{
+    let n = value.len();
+    if 1048576 < n {
+        return Planned::Refused(Refusal::TooManyOctets(n));
+    }
+    if n < 4 {
+        return Planned::Refused(Refusal::TooShort {
+            expected: 4,
+            actual: n,
+        });
+    }
+    let routing = be16(value[0], value[1]);
+    let Routing::Indicator(_) = RoutingIndicator::from_u16(routing) else {
+        return Planned::Refused(Refusal::InvalidRoutingIndicator(routing));
+    };
+    match survey(value) {
+        Surveyed::Refused(r) => Planned::Refused(r),
+        Surveyed::Parts(parts) => measure(tag, value, parts),
+    }
+}

@@ -13,3 +13,7 @@ pub mod FlatList
 pub mod Summing
 pub mod FlatWriting
 pub mod Worked
+pub mod Lines
+pub mod Printing
+pub mod Printed
+pub mod Program

@@ -1,3 +1,4 @@
 pub mod Form
 pub mod Passes
 pub mod Entry
+pub mod Line

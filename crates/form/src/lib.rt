@@ -1,6 +1,7 @@
 // The settled form of a message: octets that depend on its meaning and on nothing else.
 pub mod entry;
 pub mod flat;
+pub mod line;
 
 use bcd::error::Counted;
 use bcd::error::Refusal;

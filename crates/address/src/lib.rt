@@ -1,5 +1,5 @@
 // SUA addresses: routing indicator, global title, point code, subsystem number (address.rs; RFC 3868, 3.10.2).
-mod parts;
+pub mod parts;
 pub mod rewrite;
 
 use bcd::error::Refusal;

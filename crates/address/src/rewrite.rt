@@ -34,7 +34,7 @@ pub(crate) enum Planned {
 }
 
 // Why a sub-parameter is too short: a title has eight octets, a point code and an SSN four.
-fn too_short(place: Place) -> Refusal
+pub fn too_short(place: Place) -> Refusal
     ensures { λ r. ⌜ numbered r ≡ shortNumbers place ⌝ }
 {
     let tag = place.tag;
@@ -232,7 +232,7 @@ fn write_ssn(value: &[u8], kept: Kept, out: &mut [u8]) -> usize
     0
 }
 
-fn is_other(tag: u16) -> bool
+pub fn is_other(tag: u16) -> bool
     ensures { λ r. ⌜ r ≡ isOther tag ⌝ }
 {
     if tag == tags::GLOBAL_TITLE {

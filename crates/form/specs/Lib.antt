@@ -1,3 +1,5 @@
 pub mod Form
 pub mod Passes
 pub mod Entry
+pub mod Account
+pub mod Emitting

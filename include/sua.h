@@ -41,6 +41,26 @@ uint64_t sua_settle(const uint8_t *input, size_t input_len,
                     uint64_t *report, size_t report_len);
 
 /*
+ * A flat account of a message with its addresses. Numbers have their high octet first; a start counts from the message's
+ * first octet.
+ *
+ *     class (1 octet), type (1), number of parameters (4)
+ *     for each parameter   tag (2), start (4) and length (4) of its value; then, for tags 0x0102 and 0x0103, the address:
+ *         routing indicator (2), include bits (1: 1 SSN, 2 point code, 4 title)
+ *         title                0; or 1, indicator, translation type, numbering plan, nature of address, number of digits
+ *                              (1 each), digits as characters
+ *         point code           0; or 1 and the code (4)
+ *         SSN                  0; or 1 and the SSN (1)
+ *         others               their number (4), and for each tag (2), start (4) and length (4) of its value
+ *
+ * Refusals in order: 12, 1, 2, 4, 5 or 6 in wire order; then for each address in wire order 1, 8, 5 or 6 of its walk, each
+ * sub-parameter's 1 or 6; then 14.
+ */
+uint64_t sua_read(const uint8_t *input, size_t input_len,
+                  uint8_t *out, size_t out_len,
+                  uint64_t *report, size_t report_len);
+
+/*
  * The message of a class, a type and a list of parameters. The list is flat, numbers have their high octet first:
  *
  *     for each parameter   tag (2 octets), length of the value (4), value

@@ -31,7 +31,7 @@ abbrev pub by : Bool → Bool → Bool → Parts → Place → Parts
 by a b c s p = pick a (notedTitle s p) (pick b (notedCode s p) (pick c (notedSsn s p) (notedOther s p)))
 
 module _ (A : Alphabet) (v : List ℕ) (ps : List Place) where
-  title-holds : last asTitle (map (pieceAt A v) ps) ≡ keptTitle A v (noteAll nothing ps .title)
+  pub title-holds : last asTitle (map (pieceAt A v) ps) ≡ keptTitle A v (noteAll nothing ps .title)
   unfolding noted
   title-holds =
       last-holds 0x8001 (pieceAt A v) asTitle (λ p. titleAt A (valued v p .value)) (λ s. s .title)
@@ -39,7 +39,7 @@ module _ (A : Alphabet) (v : List ℕ) (ps : List Place) where
       (λ s p. kinds (λ a b c. by a b c s p .title ≡ pick a (keptPlace p) (s .title)) (p .tag) refl refl refl refl)
       nothing ps
 
-  code-holds : last asCode (map (pieceAt A v) ps) ≡ keptCode v (noteAll nothing ps .code)
+  pub code-holds : last asCode (map (pieceAt A v) ps) ≡ keptCode v (noteAll nothing ps .code)
   unfolding noted
   code-holds =
       last-holds 0x8002 (pieceAt A v) asCode (λ p. fourIn (valued v p .value)) (λ s. s .code)
@@ -47,7 +47,7 @@ module _ (A : Alphabet) (v : List ℕ) (ps : List Place) where
       (λ s p. kinds (λ a b c. by a b c s p .code ≡ pick b (keptPlace p) (s .code)) (p .tag) refl refl refl refl)
       nothing ps
 
-  sub-holds : last asSub (map (pieceAt A v) ps) ≡ keptSub v (noteAll nothing ps .ssn)
+  pub sub-holds : last asSub (map (pieceAt A v) ps) ≡ keptSub v (noteAll nothing ps .ssn)
   unfolding noted
   sub-holds =
       last-holds 0x8003 (pieceAt A v) asSub (λ p. getD (valued v p .value) 3 0) (λ s. s .ssn)

@@ -31,7 +31,7 @@ bits n =
     rw one (omega arith)
 
 -- The address indicator's three bits, as they were read.
-indicator-bits : (routing n : ℕ) (xs : List Piece) → indicator (addressWith routing n xs) ≡ n % 8
+pub indicator-bits : (routing n : ℕ) (xs : List Piece) → indicator (addressWith routing n xs) ≡ n % 8
 unfolding indicator addressWith
 indicator-bits routing n xs =
     let a = one 1 (n / 1 % 2) (omega arith) in
@@ -48,10 +48,10 @@ indicator-bits routing n xs =
         go (inr l) = let e : x ≡ 1 = omega arith in rw e (omega arith)
 
 module _ {v : List ℕ} {s : Parts} (k : Walked v s) (tag : ℕ) where
-  abbrev address : Address
+  abbrev pub address : Address
   address = addressWith (twoAt v 0) (getD v 3 0) (map (pieceAt builtIn v) (k .places))
 
-  read-known : readAddress builtIn v ≡ judged (s .short) (accepted address)
+  pub read-known : readAddress builtIn v ≡ judged (s .short) (accepted address)
   read-known = rw (k .parts) (read-parts builtIn v (k .places) (k .within) (k .long) (k .routing) (k .walked))
 
   -- A sub-parameter that is too short refuses.
@@ -59,7 +59,7 @@ module _ {v : List ℕ} {s : Parts} (k : Walked v s) (tag : ℕ) where
   plan-short e = ap (λ (o : Outcome Address). after o (writeAddress builtIn tag)) read-known ∙ rw e
 
   module _ (whole : s .short .there ≡ false) where
-    read-whole : readAddress builtIn v ≡ accepted address
+    pub read-whole : readAddress builtIn v ≡ accepted address
     read-whole = read-known ∙ rw whole
 
     written-again : after (readAddress builtIn v) (writeAddress builtIn tag) ≡ writeAddress builtIn tag address

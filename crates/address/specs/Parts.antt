@@ -1,5 +1,4 @@
--- Steps of the code between its public calls: what one walk over an address's sub-parameters keeps. No public contract
--- cites these.
+-- What one walk over an address's sub-parameters keeps.
 use Prim.Native.Nat.{ℕ, _+_}
 use mathlib.Core.Bool.{true, false}
 use mathlib.Core.Bool.{Bool}

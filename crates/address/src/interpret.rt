@@ -28,7 +28,7 @@ pub(crate) enum Planned {
 }
 
 // Why a sub-parameter is too short: a title has eight octets, a point code and an SSN four.
-fn too_short(place: Place) -> Refusal
+pub fn too_short(place: Place) -> Refusal
     ensures { λ r. ⌜ numbered r ≡ shortNumbers place ⌝ }
 {
     let tag = place.tag;

@@ -12,24 +12,24 @@ ghost use Rattle.parameter.specs.Walk.{places};
 ghost use Rattle.address.specs.Parts.{nothing, keptPlace, sooner, noted, noteAll, surveyedOf};
 
 // A sub-parameter that the walk keeps, if there is one.
-pub(crate) struct Kept {
-    pub(crate) there: bool,
-    pub(crate) place: Place,
+pub struct Kept {
+    pub there: bool,
+    pub place: Place,
 }
 
 // The first sub-parameter that is too short for its tag; the last title, point code and SSN; and of the others, how many
 // there are and what they take on the wire.
-pub(crate) struct Parts {
-    pub(crate) short: Kept,
-    pub(crate) title: Kept,
-    pub(crate) code: Kept,
-    pub(crate) ssn: Kept,
-    pub(crate) other_count: usize,
-    pub(crate) other_length: usize,
+pub struct Parts {
+    pub short: Kept,
+    pub title: Kept,
+    pub code: Kept,
+    pub ssn: Kept,
+    pub other_count: usize,
+    pub other_length: usize,
 }
 
 // What the walk gives, or why it cannot go on.
-pub(crate) enum Surveyed {
+pub enum Surveyed {
     Parts(Parts),
     Refused(Refusal),
 }
@@ -132,7 +132,7 @@ impl Parts {
 }
 
 // Walks the sub-parameters behind the first four octets. 12, then 5 or 6 in wire order.
-pub(crate) fn survey(value: &[u8]) -> Surveyed
+pub fn survey(value: &[u8]) -> Surveyed
     ensures { λ r. ⌜ surveyedOf r ≡ bounded (now (value .entry)) (mapped (noteAll nothing) (places (now (value .entry)) 4)) ⌝ }
 {
     if 1048576 < value.len() {

@@ -122,7 +122,8 @@ fn write_ssn(value: &[u8], kept: Kept, out: &mut [u8]) -> usize
     0
 }
 
-fn is_other(tag: u16) -> bool
+// Whether a sub-parameter is no title, point code or SSN.
+pub fn is_other(tag: u16) -> bool
     ensures { λ r. ⌜ r ≡ isOther tag ⌝ }
 {
     if tag == tags::GLOBAL_TITLE {

@@ -12,12 +12,12 @@ use Rattle.bcd.proofs.Outcomes.{accepted-inj, never, mapped-inv, demand-inv, ea
 use Rattle.bcd.proofs.Writing.{Begun, untouched, extend, delivered}
 use Rattle.parameter.specs.declared.Place.{Place}
 use Rattle.parameter.specs.Parameter.{Param, paddedLength, paramOctets, mostValue, encodeParam}
-use Rattle.parameter.specs.Walk.{ended, found, onward, valued}
+use Rattle.parameter.specs.Walk.{found, valued}
 use Rattle.parameter.proofs.RoundTrip.{octets-length}
 use Rattle.parameter.proofs.Encoding.{encode-within}
 use Rattle.form.specs.Entry.{flatStep, flatSteps, flatList}
 use Rattle.form.proofs.Passes.{valued-length}
-use Rattle.form.proofs.FlatList.{flat-inside, Walking, walking-start, walking-out, walking-next, walking-end, walking-refused, turn, flat-walked, flat-refused}
+use Rattle.form.proofs.FlatList.{flat-inside, Walking, walking-start, walking-next, walking-refused, turn, flat-walked, flat-refused}
 
 -- the parameters of the list are known, and take `total` octets
 pub record Known (xs : List ℕ) (total : ℕ) : Type 0 where

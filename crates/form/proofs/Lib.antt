@@ -12,6 +12,12 @@ pub mod Reports
 pub mod FlatList
 pub mod Summing
 pub mod FlatWriting
+pub mod Emission
+pub mod Describing
+pub mod OtherPlaces
+pub mod Accounting
+pub mod Going
+pub mod AccountDone
 pub mod Worked
 pub mod Lines
 pub mod Printing

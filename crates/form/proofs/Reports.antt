@@ -1,7 +1,7 @@
 -- The numbers of an answer, and a report that gets them.
 use Prim.Native.Nat.{ℕ, _+_, _≤_, _<_, min}
 use mathlib.Core.Path.{_≡_, refl, sym, ap, _∙_}
-use mathlib.Core.List.{List, [], _∷_, _++_}
+use mathlib.Core.List.{List, _++_}
 use mathlib.Core.Logic.{⊎-elim}
 use native.Mathlib.Omega.{arith}
 use lib.ListN.{length, getD, take, drop, length-take, drop-of-length-le}
@@ -9,7 +9,7 @@ use lib.Seq.{take-all}
 use Rattle.bcd.specs.Outcome.{Outcome, accepted, refused, Delivered}
 use Rattle.bcd.proofs.Outcomes.{le-or-lt}
 use Rattle.bcd.proofs.Writing.{Begun}
-use Rattle.form.specs.Entry.{numbers, reported, Entered, entered}
+use Rattle.form.specs.Entry.{numbers, reported, entered}
 
 pub numbers-length : (o : Outcome ℕ) → length (numbers o) ≡ 4
 numbers-length (accepted n) = refl

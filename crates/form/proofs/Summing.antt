@@ -10,12 +10,12 @@ use Rattle.bcd.specs.Outcome.{Outcome, accepted, refused, after, mapped, each, 
 use Rattle.bcd.proofs.Outcomes.{le-or-lt}
 use Rattle.parameter.specs.declared.Place.{Place}
 use Rattle.parameter.specs.Parameter.{Param, paddedLength, paramOctets, mostValue, encodeParam, wireLength}
-use Rattle.parameter.specs.Walk.{ended, found, valued}
+use Rattle.parameter.specs.Walk.{found, valued}
 use Rattle.parameter.proofs.Encoding.{encode-within, encode-beyond}
 use Rattle.parameter.proofs.RoundTrip.{octets-length}
 use Rattle.form.specs.Entry.{flatStep, flatSteps, flatList}
 use Rattle.form.proofs.Passes.{each-last, valued-length}
-use Rattle.form.proofs.FlatList.{flat-inside, Walking, walking-start, walking-out, walking-next, walking-end, walking-refused, flat-walked, flat-refused}
+use Rattle.form.proofs.FlatList.{flat-inside, Walking, walking-start, walking-next, walking-refused, flat-walked, flat-refused}
 
 -- how many octets, or the largest number of 64 bits
 abbrev pub size : List ℕ → ℕ

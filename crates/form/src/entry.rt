@@ -1,17 +1,18 @@
 // The entries for other languages, on slices of octets and numbers (include/sua.h).
+use crate::account::read;
 use crate::flat;
 use crate::settle;
 use bcd::error::Counted;
 use bcd::error::Refusal;
 ghost use mathlib.Core.Path.{_≡_};
-ghost use Prim.Native.Nat.{ℕ, min};
-ghost use mathlib.Core.List.{List};
+ghost use Prim.Native.Nat.{min};
 ghost use lib.ListN.{getD};
 ghost use Rattle.bcd.specs.Outcome.{deliver};
 ghost use Rattle.bcd.specs.Answers.{countedOf, refusalOf};
 ghost use Rattle.bcd.specs.Digits.{builtIn};
 ghost use Rattle.form.specs.Form.{settled};
-ghost use Rattle.form.specs.Entry.{numbers, reported, Entered, entered, encodeFlat};
+ghost use Rattle.form.specs.Account.{account};
+ghost use Rattle.form.specs.Entry.{numbers, reported, entered, encodeFlat};
 
 // A refusal's number and values.
 fn refusal_numbers(r: Refusal) -> [u64; 4]
@@ -78,6 +79,14 @@ pub extern "C" fn sua_settle(input: &[u8], out: &mut [u8], report: &mut [u64]) -
     ensures { λ r. ⌜ record { number = r; buffer = now (out .exit); report = now (report .exit) } ≡ entered (deliver (settled builtIn (now (input .entry))) (now (out .entry))) (now (report .entry)) ⌝ }
 {
     store(settle(input, out), report)
+}
+
+// Writes a flat account of a message with its addresses. Reading's refusals, then each address's in wire order, then 14.
+#[no_mangle]
+pub extern "C" fn sua_read(input: &[u8], out: &mut [u8], report: &mut [u64]) -> u64
+    ensures { λ r. ⌜ record { number = r; buffer = now (out .exit); report = now (report .exit) } ≡ entered (deliver (account builtIn (now (input .entry))) (now (out .entry))) (now (report .entry)) ⌝ }
+{
+    store(read(input, out), report)
 }
 
 // Writes the message of a class, a type and a flat list of parameters. 4, 15, 10 in order, 12, 14.

@@ -1,5 +1,7 @@
 // A message written from a flat list: for each parameter its tag (2 octets), the length of its value (4 octets) and the
 // value.
+use crate::be16;
+use crate::be32;
 use bcd::error::Counted;
 use bcd::error::Refusal;
 use message::header::CommonHeader;
@@ -9,30 +11,16 @@ use parameter::Cursor;
 use parameter::Place;
 use parameter::Step;
 ghost use mathlib.Core.Path.{_≡_};
-ghost use Prim.Native.Nat.{ℕ, _+_, _*_, _≤_};
+ghost use Prim.Native.Nat.{ℕ, _+_, _≤_};
 ghost use mathlib.Core.List.{List};
 ghost use lib.ListN.{length};
 ghost use Rattle.bcd.specs.Outcome.{accepted, after, mapped, each, fit64, deliver};
 ghost use Rattle.bcd.specs.Answers.{countedOf};
-ghost use Rattle.parameter.specs.Parameter.{Param, paddedLength, mostValue, encodeParam, wireLength};
+ghost use Rattle.parameter.specs.Parameter.{paddedLength, mostValue, encodeParam, wireLength};
 ghost use Rattle.parameter.specs.Walk.{valued};
 ghost use Rattle.parameter.specs.Answers.{stepOf};
 ghost use Rattle.message.specs.Message.{writeMessage};
 ghost use Rattle.form.specs.Entry.{flatStep, flatList, encodeFlat};
-
-// A number of two octets, the high one first.
-fn be16(high: u8, low: u8) -> u16
-    ensures { λ r. ⌜ r ≡ high * 256 + low ⌝ }
-{
-    (high as u16) * 256 + (low as u16)
-}
-
-// A number of two numbers of 16 bits, the high one first.
-fn be32(high: u16, low: u16) -> usize
-    ensures { λ r. ⌜ r ≡ high * 65536 + low ⌝ }
-{
-    (high as usize) * 65536 + (low as usize)
-}
 
 // The record at a position of a flat list, with the position moved on. 15.
 fn step(list: &[u8], at: usize) -> Step

@@ -1,4 +1,5 @@
 // The settled form of a message: octets that depend on its meaning and on nothing else.
+pub mod account;
 pub mod entry;
 pub mod flat;
 pub mod line;
@@ -22,6 +23,20 @@ ghost use Rattle.parameter.specs.Parameter.{Param, mostValue, runOctets, runLen
 ghost use Rattle.parameter.specs.Walk.{valued};
 ghost use Rattle.form.specs.Form.{isAddress, settledParam, settled};
 ghost use Rattle.form.specs.Passes.{settledRun, sumOf, Placeable};
+
+// A number of two octets, the high one first.
+fn be16(high: u8, low: u8) -> u16
+    ensures { λ r. ⌜ r ≡ high * 256 + low ⌝ }
+{
+    (high as u16) * 256 + (low as u16)
+}
+
+// A number of two numbers of 16 bits, the high one first.
+fn be32(high: u16, low: u16) -> usize
+    ensures { λ r. ⌜ r ≡ high * 65536 + low ⌝ }
+{
+    (high as usize) * 65536 + (low as usize)
+}
 
 // Whether a parameter is a source or a destination address.
 fn is_address(tag: u16) -> bool

@@ -1,6 +1,5 @@
 -- `form::entry::answer_numbers` meets its contract.
-use Prim.Native.Nat.{ℕ}
-use mathlib.Core.Path.{_≡_, sym, ap, _∙_}
+use mathlib.Core.Path.{sym, ap, _∙_}
 use Rattle.bcd.specs.declared.error.Counted.{Counted}
 use Rattle.bcd.specs.Answers.{countedOf}
 use Rattle.form.specs.Entry.{numbers}

@@ -1,8 +1,6 @@
 -- `form::entry::refusal_numbers` meets its contract: each arm's numbers are its refusal's.
-use Prim.Native.Nat.{ℕ}
 use mathlib.Core.Path.{_≡_, sym, ap}
 use Rattle.bcd.specs.declared.error.Refusal.{Refusal}
-use Rattle.bcd.specs.Outcome.{Outcome}
 use Rattle.bcd.specs.Answers.{refusalOf}
 use Rattle.form.specs.Entry.{numbers}
 use borrow.Author.Needs.{needs}

@@ -1,12 +1,11 @@
 -- `form::entry::store` meets its contract: the loop has stored the first i numbers.
 use Prim.Native.Nat.{ℕ, _-_, _≤_}
-use mathlib.Core.Path.{_≡_, ap}
+use mathlib.Core.Path.{ap}
 use mathlib.Core.List.{List}
 use native.Mathlib.Omega.{arith}
 use lib.ListN.{length, getD, take}
 use Rattle.bcd.specs.Answers.{countedOf}
 use Rattle.bcd.proofs.Writing.{Begun, untouched, store-next}
-use Rattle.form.specs.Entry.{numbers}
 use Rattle.form.proofs.Reports.{numbers-length, all-stored}
 use borrow.Author.Needs.{needs}
 use Rattle.form.proofs.entry.store.Statement.{statement}

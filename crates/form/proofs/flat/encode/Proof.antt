@@ -1,5 +1,5 @@
 -- `form::flat::encode` meets its contract.
-use mathlib.Core.Path.{_≡_, sym, ap, _∙_}
+use mathlib.Core.Path.{sym, ap, _∙_}
 use Rattle.bcd.specs.Outcome.{deliver}
 use Rattle.bcd.proofs.Outcomes.{deliver-refused}
 use Rattle.message.specs.Types.{typeReadOf}

@@ -1,5 +1,5 @@
 -- `form::flat::list_length` meets its contract: the loop has measured the first n parameters.
-use Prim.Native.Nat.{ℕ, _-_}
+use Prim.Native.Nat.{_-_}
 use mathlib.Core.Path.{_≡_, sym, ap, _∙_}
 use lib.ListN.{length}
 use Rattle.bcd.specs.Answers.{countedOf}

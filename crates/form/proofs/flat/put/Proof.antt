@@ -1,10 +1,8 @@
 -- `form::flat::put` meets its contract.
 use mathlib.Core.Path.{_≡_, sym, ap, _∙_}
-use Prim.Native.Nat.{ℕ}
-use mathlib.Core.List.{List}
 use native.Mathlib.Omega.{arith}
 use Rattle.bcd.specs.declared.error.Counted.{Counted}
-use Rattle.bcd.specs.Outcome.{accepted, Delivered, deliver}
+use Rattle.bcd.specs.Outcome.{deliver}
 use Rattle.bcd.specs.Answers.{countedOf}
 use Rattle.bcd.proofs.Outcomes.{never, deliver-answer}
 use Rattle.parameter.specs.Parameter.{Param, paramOctets, encodeParam}

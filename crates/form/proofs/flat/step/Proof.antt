@@ -1,6 +1,5 @@
 -- `form::flat::step` meets its contract, case by case.
-use Prim.Native.Nat.{ℕ}
-use mathlib.Core.Path.{_≡_, sym}
+use mathlib.Core.Path.{sym}
 use native.Mathlib.Omega.{arith}
 use Rattle.parameter.specs.Parameter.{twoAt}
 use Rattle.form.proofs.FlatList.{four-read, flat-end, flat-short, flat-beyond, flat-found}

@@ -1,5 +1,5 @@
 -- `form::flat::write_list` meets its contract: the loop has written the first n parameters.
-use Prim.Native.Nat.{ℕ, _-_, _≤_}
+use Prim.Native.Nat.{_-_}
 use mathlib.Core.Path.{_≡_, sym, ap, _∙_}
 use native.Mathlib.Omega.{arith}
 use lib.ListN.{length, drop, length-take, length-drop}
@@ -8,7 +8,7 @@ use Rattle.parameter.specs.Answers.{stepOf}
 use Rattle.form.specs.Entry.{flatStep}
 use borrow.Author.Needs.{needs}
 use Rattle.form.proofs.FlatList.{walking-out, walking-end}
-use Rattle.form.proofs.FlatWriting.{Known, known, Written, written-start, Turn, written-turn, written-size, written-more, written-never, written-all}
+use Rattle.form.proofs.FlatWriting.{Known, known, Written, written-start, written-turn, written-size, written-more, written-never, written-all}
 use Rattle.form.proofs.flat.write_list.Statement.{statement}
 use Rattle.form.proofs.flat.write_list.Tie as tie
 

@@ -1,12 +1,12 @@
 -- The other sub-parameters, written in order by a walk: how far it has come.
 use Prim.Native.Nat.{ℕ, _+_, _-_, _≤_, _<_}
 use mathlib.Core.Path.{_≡_, refl, sym, ap, _∙_}
-use mathlib.Core.Bool.{Bool, true, false}
+use mathlib.Core.Bool.{true, false}
 use mathlib.Core.List.{List, [], _∷_, _++_, map, map-append}
 use native.Mathlib.Omega.{arith}
 use lib.ListN.{length, take, drop, length-append, length-take, length-drop}
 use borrow.Rule.Slice.PartMut.{midOf, putMid}
-use Rattle.bcd.specs.Outcome.{Outcome, accepted, pick, Octets, most, deliver}
+use Rattle.bcd.specs.Outcome.{Outcome, accepted, Octets, most, deliver}
 use Rattle.bcd.proofs.Outcomes.{accepted-inj, mapped-inv, deliver-buffer, deliver-answer, octets-at}
 use Rattle.bcd.proofs.Writing.{Begun, untouched, extend}
 use Rattle.parameter.specs.Parameter.{Param, paddedLength, paramOctets, runOctets, runLength, mostValue, encodeParam, twoAt}
@@ -16,10 +16,11 @@ use Rattle.parameter.proofs.Walking.{step-inv}
 use Rattle.parameter.proofs.Reaching.{Reached, reached-start, reached-next}
 use Rattle.parameter.proofs.RoundTrip.{run-length, run-octets-append, run-length-append}
 use Rattle.parameter.proofs.Running.{part-of}
-use Rattle.address.specs.Parts.{isOther, otherPlaces}
+use Rattle.address.specs.Listing.{isOther, otherPlaces}
 use Rattle.address.specs.Plan.{Walked, othersOctets}
 use Rattle.address.specs.declared.parts.Parts.{Parts}
 use Rattle.address.proofs.Keeping.{value-length}
+use Rattle.address.proofs.Others.{others-append}
 use Rattle.address.proofs.Planning.{others-sum, others-small}
 use Rattle.address.proofs.Putting.{encoded, one-delivered, none-delivered}
 
@@ -50,17 +51,6 @@ module _ (v : List ℕ) (p : Place) (out : List ℕ) where
   pub other-absent : isOther (p .tag) ≡ false → record { answer = accepted 0; buffer = out } ≡ deliver (accepted (runOctets (map (valued v) (otherPlaces (p ∷ []))))) out
   other-absent e = rw e (none-delivered out)
 
-others-append : (ps qs : List Place) → otherPlaces (ps ++ qs) ≡ otherPlaces ps ++ otherPlaces qs
-others-append [] qs = refl
-others-append (p ∷ ps) qs = go (isOther (p .tag)) (others-append ps qs)
-  where
-    go :
-        (t : Bool)
-        → otherPlaces (ps ++ qs) ≡ otherPlaces ps ++ otherPlaces qs
-        → pick t (p ∷ otherPlaces (ps ++ qs)) (otherPlaces (ps ++ qs)) ≡ pick t (p ∷ otherPlaces ps) (otherPlaces ps) ++ otherPlaces qs
-    go true e = ap (λ l. p ∷ l) e
-    go false e = e
-
 abbrev pub othersOf : List ℕ → List Place → List Param
 othersOf v ps = map (valued v) (otherPlaces ps)
 
@@ -78,7 +68,7 @@ unfolding reached-start runOctets
 copying-start v out = record { reached = reached-start v 4; begun = untouched out; place = refl }
 
 -- The places that a walk has come to are the front of all.
-reached-front : {v : List ℕ} {n at : ℕ} (ps : List Place) (r : Reached v 4 n at) → places v 4 ≡ accepted ps → (qs : List Place) × (r .done ++ qs ≡ ps)
+pub reached-front : {v : List ℕ} {n at : ℕ} (ps : List Place) (r : Reached v 4 n at) → places v 4 ≡ accepted ps → (qs : List Place) × (r .done ++ qs ≡ ps)
 reached-front {v} {n} {at} ps r e =
     let (qs, h, same) = mapped-inv (λ qs. r .done ++ qs) (steps (length v - n) v at) (sym (r .left) ∙ e) in
     (qs, same)

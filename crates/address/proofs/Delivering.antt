@@ -68,13 +68,13 @@ module _ {out p d : List ℕ} (at : ℕ) (b : Begun out p d) (place : length p �
 pub record Pieces (v : List ℕ) (s : Parts) (total : ℕ) (p : Plan v s total) : Type 0 where
   pub titled : List Param
   pub title : each (subParam builtIn) (present title (keptTitle builtIn v (s .title))) ≡ accepted titled
-  pub whole : titled ++ rest v s (p .known .places) ≡ p .params
+  pub whole : titled ++ rest v s (p .read .known .places) ≡ p .params
 
 pub planned-pieces : {v : List ℕ} {s : Parts} {total : ℕ} (p : Plan v s total) → Pieces v s total p
 unfolding keptPieces
 planned-pieces {v} {s} p =
     let (us, vs, hu, hv, j) = each-split (subParam builtIn) (present title (keptTitle builtIn v (s .title))) _ (p .params) (p .written) in
-    record { titled = us; title = hu; whole = accepted-inj (sym (kept-written v s (p .known .places) us hu) ∙ p .written) }
+    record { titled = us; title = hu; whole = accepted-inj (sym (kept-written v s (p .read .known .places) us hu) ∙ p .written) }
 
 module _ {v : List ℕ} {s : Parts} {total : ℕ} (p : Plan v s total) where
   abbrev pub codes : List Param
@@ -84,7 +84,7 @@ module _ {v : List ℕ} {s : Parts} {total : ℕ} (p : Plan v s total) where
   subs = paramOf subOne (keptSub v (s .ssn))
 
   abbrev others : List Param
-  others = othersOf v (p .known .places)
+  others = othersOf v (p .read .known .places)
 
   pub planned-length : 4 + runLength (planned-pieces p .titled) + runLength codes + runLength subs + runLength others ≡ total
   planned-length =
@@ -95,7 +95,7 @@ module _ {v : List ℕ} {s : Parts} {total : ℕ} (p : Plan v s total) where
       omega (arith, ap runLength (q .whole), p .size)
 
   pub planned-others : s .«other_length» ≡ runLength others
-  planned-others = others-sum (p .known)
+  planned-others = others-sum (p .read .known)
 
   planned-octets : (((headOctets v ++ runOctets (planned-pieces p .titled)) ++ runOctets codes) ++ runOctets subs) ++ runOctets others ≡ wireOf v (p .params)
   planned-octets =
@@ -120,7 +120,7 @@ module _ {v : List ℕ} {s : Parts} {total : ℕ} (p : Plan v s total) where
       → last ≡ othersOctets v ++ drop (length (othersOctets v)) (midOf at (length d - at) d)
       → record { answer = accepted total; buffer = putMid at (length d - at) d last } ≡ deliver (after (readAddress builtIn v) (writeAddress builtIn 0)) out
   planned-done out d last at b place room e =
-      let o = done-octets v (p .known .places) (p .known .walked) in
+      let o = done-octets v (p .read .known .places) (p .read .known .walked) in
       let put = e ∙ ap (λ l. l ++ drop (length l) (midOf at (length d - at) d)) o in
       let l = run-length others in
       let x = extend (runOctets others) last at (length d - at) b place (omega (arith, b .same)) (omega (arith, b .same)) put in

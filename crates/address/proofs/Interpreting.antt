@@ -22,7 +22,8 @@ use Rattle.address.specs.Records.{routingOf}
 use Rattle.address.specs.declared.RoutingIndicator.{RoutingIndicator}
 use Rattle.address.specs.declared.Routing.{Routing}
 use Rattle.address.specs.declared.Routing.the-variants as R
-use Rattle.address.specs.Parts.{nothing, notedTitle, notedCode, notedSsn, notedOther, noted, noteAll, judged, titleAt, keptTitle, keptCode, keptSub, otherPlaces, keptPieces, keptPlace}
+use Rattle.address.specs.Parts.{nothing, notedTitle, notedCode, notedSsn, notedOther, noted, noteAll, judged, titleAt, keptTitle, keptCode, keptSub, keptPieces, keptPlace}
+use Rattle.address.specs.Listing.{otherPlaces}
 use Rattle.address.specs.declared.parts.Parts.{Parts}
 use Rattle.address.proofs.Keeping.{kinds, Inside, value-length, pieceBy, pieceAt, pieces-judged, judged-mapped, last-holds}
 

@@ -7,7 +7,9 @@ pub mod Records
 pub mod Surveying
 pub mod Keeping
 pub mod Interpreting
+pub mod Others
 pub mod Planning
+pub mod Interpreted
 pub mod Plans
 pub mod Putting
 pub mod Titling

@@ -1,7 +1,6 @@
 -- An address value that was interpreted, read and written again: refused, or these octets.
 use Prim.Native.Nat.{ℕ, _+_, _*_, _/_, _%_, _^_, _≤_, _<_}
 use mathlib.Core.Path.{_≡_, sym, ap, _∙_}
-use mathlib.Core.Bool.{true, false}
 use mathlib.Core.Logic.{_⊎_, inl, inr}
 use mathlib.Core.List.{List, [], _∷_, _++_, map}
 use native.Mathlib.Omega.{arith}
@@ -15,12 +14,13 @@ use Rattle.bcd.proofs.Characters.{builtIn-lawful}
 use Rattle.parameter.specs.Parameter.{Param, two, runOctets, runLength, mostValue, twoAt}
 use Rattle.parameter.proofs.RoundTrip.{run-length, run-length-append}
 use Rattle.address.specs.Address.{Address, Piece, title, present, addressWith, addressIn, readAddress, indicator, pieces, subParam, sized, writeAddress}
-use Rattle.address.specs.Parts.{judged, shortRefusal, keptTitle, keptPieces}
-use Rattle.address.specs.Plan.{Walked, wireOf, Plan}
+use Rattle.address.specs.Parts.{keptTitle, keptPieces}
+use Rattle.address.specs.Plan.{Read, wireOf, Plan}
 use Rattle.address.specs.declared.parts.Parts.{Parts}
 use Rattle.address.proofs.Keeping.{pieceAt}
-use Rattle.address.proofs.Interpreting.{kept-pieces, read-parts}
+use Rattle.address.proofs.Interpreting.{kept-pieces}
 use Rattle.address.proofs.Planning.{rest, rest-length, kept-written, kept-refused, others-sum}
+use Rattle.address.proofs.Interpreted.{address, read-whole}
 use Rattle.address.proofs.Writable.{subs-write}
 
 bits : (n : ℕ) → n / 1 % 2 + n / 2 % 2 * 2 + n / 4 % 2 * 4 ≡ n % 8
@@ -47,66 +47,52 @@ indicator-bits routing n xs =
         go (inl l) = let e : x ≡ 0 = omega arith in rw e (omega arith)
         go (inr l) = let e : x ≡ 1 = omega arith in rw e (omega arith)
 
-module _ {v : List ℕ} {s : Parts} (k : Walked v s) (tag : ℕ) where
-  abbrev pub address : Address
-  address = addressWith (twoAt v 0) (getD v 3 0) (map (pieceAt builtIn v) (k .places))
+module _ {v : List ℕ} {s : Parts} (r : Read v s) (tag : ℕ) where
+  written-again : after (readAddress builtIn v) (writeAddress builtIn tag) ≡ writeAddress builtIn tag (address (r .known))
+  written-again = ap (λ (o : Outcome Address). after o (writeAddress builtIn tag)) (read-whole r)
 
-  pub read-known : readAddress builtIn v ≡ judged (s .short) (accepted address)
-  read-known = rw (k .parts) (read-parts builtIn v (k .places) (k .within) (k .long) (k .routing) (k .walked))
+  pieces-known : pieces (address (r .known)) ≡ keptPieces builtIn v s (r .known .places)
+  pieces-known = rw (r .known .parts) (kept-pieces builtIn v (r .known .places) (twoAt v 0) (getD v 3 0))
 
-  -- A sub-parameter that is too short refuses.
-  pub plan-short : s .short .there ≡ true → after (readAddress builtIn v) (writeAddress builtIn tag) ≡ shortRefusal (s .short .place)
-  plan-short e = ap (λ (o : Outcome Address). after o (writeAddress builtIn tag)) read-known ∙ rw e
+  -- The title's digits refuse.
+  pub plan-unknown :
+      (n : ℕ) (vs : List ℕ)
+      → each (subParam builtIn) (present title (keptTitle builtIn v (s .title))) ≡ refused n vs
+      → after (readAddress builtIn v) (writeAddress builtIn tag) ≡ refused n vs
+  unfolding writeAddress
+  plan-unknown n vs e = written-again ∙ rw (pieces-known, kept-refused v s (r .known .places) n vs e)
 
-  module _ (whole : s .short .there ≡ false) where
-    pub read-whole : readAddress builtIn v ≡ accepted address
-    read-whole = read-known ∙ rw whole
-
-    written-again : after (readAddress builtIn v) (writeAddress builtIn tag) ≡ writeAddress builtIn tag address
-    written-again = ap (λ (o : Outcome Address). after o (writeAddress builtIn tag)) read-whole
-
-    pieces-known : pieces address ≡ keptPieces builtIn v s (k .places)
-    pieces-known = rw (k .parts) (kept-pieces builtIn v (k .places) (twoAt v 0) (getD v 3 0))
-
-    -- The title's digits refuse.
-    pub plan-unknown :
-        (n : ℕ) (vs : List ℕ)
-        → each (subParam builtIn) (present title (keptTitle builtIn v (s .title))) ≡ refused n vs
-        → after (readAddress builtIn v) (writeAddress builtIn tag) ≡ refused n vs
-    unfolding writeAddress
-    plan-unknown n vs e = written-again ∙ rw (pieces-known, kept-refused v s (k .places) n vs e)
-
-    -- Else only the length of the whole counts.
-    plan-sized :
-        (qs : List Param)
-        → each (subParam builtIn) (keptPieces builtIn v s (k .places)) ≡ accepted qs
-        → after (readAddress builtIn v) (writeAddress builtIn tag) ≡ sized tag (wireOf v qs)
-    unfolding readAddress addressWith
-    plan-sized qs e =
-        let read : addressIn builtIn v ≡ accepted address = sym (bounded-within v (addressIn builtIn v) (k .within)) ∙ read-whole in
-        written-again
-        ∙ subs-write builtIn builtIn-lawful tag v address (k .octets) read qs (ap (each (subParam builtIn)) pieces-known ∙ e)
-        ∙ ap (λ (b : ℕ). sized tag (two (twoAt v 0) ++ two b ++ runOctets qs)) (indicator-bits (twoAt v 0) (getD v 3 0) (map (pieceAt builtIn v) (k .places)))
+  -- Else only the length of the whole counts.
+  plan-sized :
+      (qs : List Param)
+      → each (subParam builtIn) (keptPieces builtIn v s (r .known .places)) ≡ accepted qs
+      → after (readAddress builtIn v) (writeAddress builtIn tag) ≡ sized tag (wireOf v qs)
+  unfolding readAddress addressWith
+  plan-sized qs e =
+      let read : addressIn builtIn v ≡ accepted (address (r .known)) = sym (bounded-within v (addressIn builtIn v) (r .known .within)) ∙ read-whole r in
+      written-again
+      ∙ subs-write builtIn builtIn-lawful tag v (address (r .known)) (r .known .octets) read qs (ap (each (subParam builtIn)) pieces-known ∙ e)
+      ∙ ap (λ (b : ℕ). sized tag (two (twoAt v 0) ++ two b ++ runOctets qs)) (indicator-bits (twoAt v 0) (getD v 3 0) (map (pieceAt builtIn v) (r .known .places)))
 
 pub wire-length : (v : List ℕ) (qs : List Param) → length (wireOf v qs) ≡ 4 + runLength qs
 wire-length v qs = omega (arith, run-length qs)
 
 -- The sum of the parts' lengths is that of the octets.
-module _ {v : List ℕ} {s : Parts} (k : Walked v s) (whole : s .short .there ≡ false) (n total : ℕ)
+module _ {v : List ℕ} {s : Parts} (r : Read v s) (n total : ℕ)
     (titled : accepted n ≡ mapped runLength (each (subParam builtIn) (present title (keptTitle builtIn v (s .title)))))
     (sum : total ≡ 4 + n + pick (s .code .there) 8 0 + pick (s .ssn .there) 8 0 + s .«other_length») where
   record Summed : Type 0 where
     params : List Param
-    written : each (subParam builtIn) (keptPieces builtIn v s (k .places)) ≡ accepted params
+    written : each (subParam builtIn) (keptPieces builtIn v s (r .known .places)) ≡ accepted params
     size : 4 + runLength params ≡ total
 
   summed : Summed
   summed =
       let (qs, e, l) = mapped-inv runLength (each (subParam builtIn) (present title (keptTitle builtIn v (s .title)))) (sym titled) in
       record {
-        params = qs ++ rest v s (k .places);
-        written = kept-written v s (k .places) qs e;
-        size = omega (arith, run-length-append qs (rest v s (k .places)), rest-length v s (k .places), others-sum k);
+        params = qs ++ rest v s (r .known .places);
+        written = kept-written v s (r .known .places) qs e;
+        size = omega (arith, run-length-append qs (rest v s (r .known .places)), rest-length v s (r .known .places), others-sum (r .known));
       }
 
   pub plan-long : (tag : ℕ) → mostValue < total → total < 2 ^ 64 → after (readAddress builtIn v) (writeAddress builtIn tag) ≡ refused 10 (tag ∷ total ∷ [])
@@ -114,16 +100,16 @@ module _ {v : List ℕ} {s : Parts} (k : Walked v s) (whole : s .short .there �
       let m = summed in
       let l : length (wireOf v (m .params)) ≡ total = wire-length v (m .params) ∙ m .size in
       let f : fit64 total ≡ total = omega arith in
-      plan-sized k tag whole (m .params) (m .written) ∙ rw (l, lt-leb total mostValue h, f)
+      plan-sized r tag (m .params) (m .written) ∙ rw (l, lt-leb total mostValue h, f)
 
   pub plan-made : total ≤ mostValue → Plan v s total
-  plan-made h = let m = summed in record { known = k; whole = whole; params = m .params; written = m .written; size = m .size; fits = h }
+  plan-made h = let m = summed in record { read = r; params = m .params; written = m .written; size = m .size; fits = h }
 
 -- What a plan is written as.
 pub plan-octets : {v : List ℕ} {s : Parts} {total : ℕ} (tag : ℕ) (p : Plan v s total) → after (readAddress builtIn v) (writeAddress builtIn tag) ≡ accepted (wireOf v (p .params))
 plan-octets {v} {s} {total} tag p =
     let l : length (wireOf v (p .params)) ≡ total = wire-length v (p .params) ∙ p .size in
-    plan-sized (p .known) tag (p .whole) (p .params) (p .written) ∙ rw (l, le-leb total mostValue (p .fits))
+    plan-sized (p .read) tag (p .params) (p .written) ∙ rw (l, le-leb total mostValue (p .fits))
 
 pub plan-length : {v : List ℕ} {s : Parts} {total : ℕ} (tag : ℕ) (p : Plan v s total) → accepted total ≡ mapped length (after (readAddress builtIn v) (writeAddress builtIn tag))
 plan-length {v} {s} {total} tag p = sym (ap (mapped length) (plan-octets tag p) ∙ ap accepted (wire-length v (p .params) ∙ p .size))

@@ -1,5 +1,6 @@
 pub mod Address
 pub mod Records
+pub mod Titles
+pub mod Listing
 pub mod Parts
 pub mod Plan
-pub mod Titles

@@ -1,19 +1,19 @@
 -- What one walk over an address's sub-parameters keeps.
 use Prim.Native.Nat.{ℕ, _+_}
-use mathlib.Core.Bool.{true, false}
-use mathlib.Core.Bool.{Bool}
+use mathlib.Core.Bool.{Bool, true, false}
 use mathlib.Core.Option.{Option}
 use mathlib.Core.List.{List, [], _∷_, _++_, map}
 use lib.Dec.{ltb, eqb}
 use lib.ListN.{getD, drop}
-use Rattle.bcd.specs.Outcome.{Outcome, accepted, refused, pick}
+use Rattle.bcd.specs.Outcome.{Outcome, accepted, refused, pick, after, mapped}
 use Rattle.bcd.specs.Answers.{refusalOf}
-use Rattle.bcd.specs.Digits.{Alphabet, digitsIn}
+use Rattle.bcd.specs.Digits.{Alphabet, builtIn, digitsIn}
 use Rattle.parameter.specs.Parameter.{paddedLength, fourIn}
-use Rattle.parameter.specs.Walk.{valued}
+use Rattle.parameter.specs.Walk.{places, valued}
 use Rattle.parameter.specs.declared.Place.{Place}
-use Rattle.address.specs.Address.{Title, Piece, title, code, sub, other, present}
+use Rattle.address.specs.Address.{Title, Piece, title, code, sub, other, present, readAddress}
 use Rattle.address.specs.Records.{flagged}
+use Rattle.address.specs.Listing.{otherPlaces}
 use Rattle.address.specs.declared.parts.Kept.{Kept}
 use Rattle.address.specs.declared.parts.Parts.{Parts}
 use Rattle.address.specs.declared.parts.Surveyed.{Surveyed}
@@ -64,6 +64,10 @@ abbrev pub surveyedOf : Surveyed → Outcome Parts
 surveyedOf (S.Parts s) = accepted s
 surveyedOf (S.Refused r) = refusalOf r
 
+-- What the walk keeps of an address value that is read; the refusals of its reading.
+unfoldable pub interpreted : List ℕ → Outcome Parts
+interpreted v = after (readAddress builtIn v) (λ a. mapped (noteAll nothing) (places v 4))
+
 -- The refusal of a sub-parameter that is too short for its tag.
 abbrev pub shortBy : (isTitle : Bool) → Place → ℕ × List ℕ
 shortBy true p = (1, 8 ∷ p .length ∷ [])
@@ -96,14 +100,6 @@ keptCode v k = flagged (k .there) (fourIn (valued v (k .place) .value))
 
 abbrev pub keptSub : List ℕ → Kept → Option ℕ
 keptSub v k = flagged (k .there) (getD (valued v (k .place) .value) 3 0)
-
--- The places of the other sub-parameters.
-abbrev pub isOther : ℕ → Bool
-isOther tag = pick (eqb tag 0x8001) false (pick (eqb tag 0x8002) false (pick (eqb tag 0x8003) false true))
-
-abbrev pub otherPlaces : List Place → List Place
-otherPlaces [] = []
-otherPlaces (p ∷ ps) = pick (isOther (p .tag)) (p ∷ otherPlaces ps) (otherPlaces ps)
 
 -- The pieces that are written, in their order.
 unfoldable pub keptPieces : Alphabet → List ℕ → Parts → List Place → List Piece

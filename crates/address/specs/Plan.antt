@@ -13,7 +13,8 @@ use Rattle.parameter.specs.Walk
 use Rattle.parameter.specs.Walk.{valued}
 use Rattle.parameter.specs.declared.Place.{Place}
 use Rattle.address.specs.Address.{subParam, readAddress, writeAddress}
-use Rattle.address.specs.Parts.{nothing, noteAll, otherPlaces, keptPieces}
+use Rattle.address.specs.Parts.{nothing, noteAll, keptPieces}
+use Rattle.address.specs.Listing.{otherPlaces}
 use Rattle.address.specs.declared.parts.Kept.{Kept}
 use Rattle.address.specs.declared.parts.Parts.{Parts}
 use Rattle.address.specs.declared.interpret.Planned.{Planned}
@@ -39,6 +40,11 @@ pub record Walked (v : List ℕ) (s : Parts) : Type 0 where
   pub walked : Walk.places v 4 ≡ accepted places
   pub parts : s ≡ noteAll nothing places
 
+-- An address value that reads without refusal.
+pub record Read (v : List ℕ) (s : Parts) : Type 0 where
+  pub known : Walked v s
+  pub whole : s .short .there ≡ false
+
 -- The octets in front of the sub-parameters: the routing indicator, and the three bits of the address indicator.
 abbrev pub headOctets : List ℕ → List ℕ
 headOctets v = two (twoAt v 0) ++ two (getD v 3 0 % 8)
@@ -48,10 +54,9 @@ wireOf v qs = headOctets v ++ runOctets qs
 
 -- One that can be written, as so many octets.
 pub record Plan (v : List ℕ) (s : Parts) (total : ℕ) : Type 0 where
-  pub known : Walked v s
-  pub whole : s .short .there ≡ false
+  pub read : Read v s
   pub params : List Param
-  pub written : each (subParam builtIn) (keptPieces builtIn v s (known .places)) ≡ accepted params
+  pub written : each (subParam builtIn) (keptPieces builtIn v s (read .known .places)) ≡ accepted params
   pub size : 4 + runLength params ≡ total
   pub fits : total ≤ mostValue
 

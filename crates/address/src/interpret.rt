@@ -18,8 +18,8 @@ ghost use Rattle.bcd.specs.Answers.{numbered, countedOf};
 ghost use Rattle.bcd.specs.Digits.{builtIn};
 ghost use Rattle.parameter.specs.Parameter.{runLength};
 ghost use Rattle.address.specs.Address.{title, code, present, subParam};
-ghost use Rattle.address.specs.Parts.{shortNumbers, titleAt, keptTitle};
-ghost use Rattle.address.specs.Plan.{HeldIn, Walked, Plan, PlanOf};
+ghost use Rattle.address.specs.Parts.{surveyedOf, interpreted, shortNumbers, titleAt, keptTitle};
+ghost use Rattle.address.specs.Plan.{HeldIn, Read, Plan, PlanOf};
 
 // The parts of an address value that can be written, and how many octets it is then; or why it cannot.
 pub(crate) enum Planned {
@@ -80,16 +80,11 @@ fn four_length(kept: Kept) -> usize
     if kept.there { 8 } else { 0 }
 }
 
-// The length of what is written, of sub-parameters that were walked. Each sub-parameter's 1 or 6, then 9, then 10.
+// The length of what is written, of an address value that was read. 9, then 10.
 fn measure(tag: u16, value: &[u8], parts: Parts) -> Planned
-    requires { ⌜ Walked (now value) parts ⌝ }
+    requires { ⌜ Read (now value) parts ⌝ }
     ensures { λ r. ⌜ PlanOf tag (now (value .entry)) r ⌝ }
 {
-    let short = parts.short;
-    if short.there {
-        let place = short.place;
-        return Planned::Refused(too_short(place));
-    }
     let kept = parts.title;
     match title_length(value, kept) {
         Counted::Refused(r) => Planned::Refused(r),
@@ -105,25 +100,42 @@ fn measure(tag: u16, value: &[u8], parts: Parts) -> Planned
     }
 }
 
-// Interprets an address value: 12, 1, 8, 5 or 6 of the walk, each sub-parameter's 1 or 6, then 9, 10.
-pub(crate) fn plan(tag: u16, value: &[u8]) -> Planned
-    ensures { λ r. ⌜ PlanOf tag (now (value .entry)) r ⌝ }
+// The parts of an address value. 12, 1, 8, 5 or 6 of the walk, then each sub-parameter's 1 or 6.
+pub fn interpret(value: &[u8]) -> Surveyed
+    ensures { λ r. ⌜ surveyedOf r ≡ interpreted (now (value .entry)) ⌝ }
 {
     let n = value.len();
     if 1048576 < n {
-        return Planned::Refused(Refusal::TooManyOctets(n));
+        return Surveyed::Refused(Refusal::TooManyOctets(n));
     }
     if n < 4 {
-        return Planned::Refused(Refusal::TooShort {
+        return Surveyed::Refused(Refusal::TooShort {
             expected: 4,
             actual: n,
         });
     }
     let routing = be16(value[0], value[1]);
     let Routing::Indicator(_) = RoutingIndicator::from_u16(routing) else {
-        return Planned::Refused(Refusal::InvalidRoutingIndicator(routing));
+        return Surveyed::Refused(Refusal::InvalidRoutingIndicator(routing));
     };
     match survey(value) {
+        Surveyed::Refused(r) => Surveyed::Refused(r),
+        Surveyed::Parts(parts) => {
+            let short = parts.short;
+            if short.there {
+                let place = short.place;
+                return Surveyed::Refused(too_short(place));
+            }
+            Surveyed::Parts(parts)
+        }
+    }
+}
+
+// How an address value is written again: reading's refusals, then 9, then 10.
+pub(crate) fn plan(tag: u16, value: &[u8]) -> Planned
+    ensures { λ r. ⌜ PlanOf tag (now (value .entry)) r ⌝ }
+{
+    match interpret(value) {
         Surveyed::Refused(r) => Planned::Refused(r),
         Surveyed::Parts(parts) => measure(tag, value, parts),
     }

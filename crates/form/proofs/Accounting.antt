@@ -13,20 +13,23 @@ use Rattle.parameter.specs.declared.Place.{Place}
 use Rattle.parameter.specs.Parameter.{two, four, twoAt}
 use Rattle.parameter.specs.Walk.{valued, places}
 use Rattle.address.specs.Address.{addressIn, readAddress, addressWith}
-use Rattle.address.specs.Parts.{keptTitle, keptCode, keptSub, otherPlaces}
-use Rattle.address.specs.Plan.{HeldIn, placesIn}
+use Rattle.address.specs.Parts.{keptTitle, keptCode, keptSub}
+use Rattle.address.specs.Listing.{otherPlaces}
+use Rattle.address.specs.Plan.{HeldIn, Read, placesIn}
 use Rattle.address.specs.declared.parts.Kept.{Kept}
 use Rattle.address.specs.declared.parts.Parts.{Parts}
 use Rattle.address.proofs.Keeping.{pieceAt}
 use Rattle.address.proofs.Interpreting.{title-holds, code-holds, sub-holds}
 use Rattle.address.proofs.Planning.{sound}
-use Rattle.address.proofs.Plans.{indicator-bits, read-whole}
+use Rattle.address.proofs.Plans.{indicator-bits}
+use Rattle.address.proofs.Interpreted.{read-whole}
 use Rattle.form.specs.Form.{isAddress}
 use Rattle.form.specs.Account.{placeOctets, marked, titleFields, addressFields, moved, addressAccount, paramAccount}
-use Rattle.form.specs.Emitting.{emit, Emitted, Tried, Read, othersFields, partsFields, Further}
+use Rattle.form.specs.Emitting.{emit, Emitted, Tried, othersFields, partsFields, Further}
 use Rattle.form.proofs.Emission.{emitted-more}
 use Rattle.form.proofs.Describing.{value-at}
-use Rattle.form.proofs.OtherPlaces.{listed, listed-length, count-known, walk-few}
+use Rattle.address.proofs.Others.{count-known, walk-few}
+use Rattle.form.proofs.OtherPlaces.{listed, listed-length}
 
 -- what the parts of an address take
 pub title-small : (v : List ℕ) (k : Kept) → Octets v → HeldIn v 8 k → length (marked titleFields (keptTitle builtIn v k)) ≤ 262
@@ -90,7 +93,7 @@ parts-small base {v} {s} r =
     let S = marked (λ (n : ℕ). n ∷ []) (keptSub v (s .ssn)) in
     let O = othersFields base v s in
     let walked : listed base (placesIn (places v 4)) ≡ listed base (r .known .places) = ap (λ o. listed base (placesIn o)) (r .known .walked) in
-    omega (arith, title-small v (s .title) (r .known .octets) (k .title), code-small v (s .code), sub-small v (s .ssn), length-append T (C ++ (S ++ O)), length-append C (S ++ O), length-append S O, ap length walked, listed-length base (r .known .places), walk-few r)
+    omega (arith, title-small v (s .title) (r .known .octets) (k .title), code-small v (s .code), sub-small v (s .ssn), length-append T (C ++ (S ++ O)), length-append C (S ++ O), length-append S O, ap length walked, listed-length base (r .known .places), walk-few (r .known))
 
 -- the account of an address value that was read, and of one that was not
 pub account-read : (base : ℕ) {v : List ℕ} {s : Parts} (r : Read v s) → addressAccount builtIn base v ≡ accepted (partsFields base v s)
@@ -98,8 +101,8 @@ unfolding addressAccount addressFields partsFields readAddress addressWith
 account-read base {v} {s} r =
     let ps = r .known .places in
     let read : addressIn builtIn v ≡ accepted (addressWith (twoAt v 0) (getD v 3 0) (map (pieceAt builtIn v) ps)) =
-    sym (bounded-within v (addressIn builtIn v) (r .known .within)) ∙ read-whole (r .known) 0 (r .whole) in
-    let count : length (map (moved base) (otherPlaces ps)) ≡ s .«other_count» = length-map (otherPlaces ps) (moved base) ∙ sym (count-known r) in
+    sym (bounded-within v (addressIn builtIn v) (r .known .within)) ∙ read-whole r in
+    let count : length (map (moved base) (otherPlaces ps)) ≡ s .«other_count» = length-map (otherPlaces ps) (moved base) ∙ sym (count-known (r .known)) in
     rw (read, r .known .walked, indicator-bits (twoAt v 0) (getD v 3 0) (map (pieceAt builtIn v) ps), title-holds builtIn v ps, code-holds builtIn v ps, sub-holds builtIn v ps, count, ← r .known .parts)
 
 pub account-refused :

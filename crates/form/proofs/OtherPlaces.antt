@@ -1,21 +1,18 @@
 -- The places of the other sub-parameters, stored one after the other.
 use Prim.Native.Nat.{ℕ, _+_, _-_, _*_, _≤_, _<_}
 use mathlib.Core.Path.{_≡_, refl, sym, ap, _∙_, subst}
-use mathlib.Core.Bool.{Bool, true, false}
 use mathlib.Core.List.{List, [], _∷_, _++_, map, map-append, append-assoc}
 use native.Mathlib.Omega.{arith}
 use lib.ListN.{length, length-map}
-use Rattle.bcd.specs.Outcome.{accepted, pick, most}
+use Rattle.bcd.specs.Outcome.{accepted}
 use Rattle.parameter.specs.declared.Place.{Place}
 use Rattle.parameter.specs.Walk.{found, stepAt, places}
-use Rattle.parameter.proofs.Walking.{places-few}
 use Rattle.parameter.proofs.Reaching.{Reached, reached-start, reached-next}
-use Rattle.address.specs.Parts.{nothing, isOther, otherPlaces}
+use Rattle.address.specs.Listing.{otherPlaces}
 use Rattle.address.specs.Plan.{placesIn}
-use Rattle.address.specs.declared.parts.Parts.{Parts}
-use Rattle.address.proofs.Interpreting.{others-count}
+use Rattle.address.proofs.Others.{others-append, others-fewer}
 use Rattle.form.specs.Account.{placeOctets, placesOctets, moved}
-use Rattle.form.specs.Emitting.{Emitted, Read}
+use Rattle.form.specs.Emitting.{Emitted}
 use Rattle.form.proofs.Emission.{emitted-none, emitted-more}
 
 abbrev pub listed : (base : ℕ) → List Place → List ℕ
@@ -25,15 +22,6 @@ octets-append : (us vs : List Place) → placesOctets (us ++ vs) ≡ placesOctet
 unfolding placesOctets
 octets-append [] vs = refl
 octets-append (u ∷ us) vs = ap (λ (l : List ℕ). placeOctets u ++ l) (octets-append us vs) ∙ sym (append-assoc (placeOctets u) (placesOctets us) (placesOctets vs))
-
-others-append : (us vs : List Place) → otherPlaces (us ++ vs) ≡ otherPlaces us ++ otherPlaces vs
-others-append [] vs = refl
-others-append (u ∷ us) vs = go (isOther (u .tag)) (others-append us vs)
-  where
-    go : (t : Bool) → otherPlaces (us ++ vs) ≡ otherPlaces us ++ otherPlaces vs
-        → pick t (u ∷ otherPlaces (us ++ vs)) (otherPlaces (us ++ vs)) ≡ pick t (u ∷ otherPlaces us) (otherPlaces us) ++ otherPlaces vs
-    go true e = ap (λ (l : List Place). u ∷ l) e
-    go false e = e
 
 listed-append : (base : ℕ) (us vs : List Place) → listed base (us ++ vs) ≡ listed base us ++ listed base vs
 listed-append base us vs =
@@ -46,26 +34,8 @@ unfolding placesOctets
 octets-length [] = refl
 octets-length (p ∷ ps) = omega (arith, octets-length ps)
 
-pub others-fewer : (ps : List Place) → length (otherPlaces ps) ≤ length ps
-others-fewer [] = omega arith
-others-fewer (p ∷ ps) = go (isOther (p .tag)) (others-fewer ps)
-  where
-    go : (t : Bool) → length (otherPlaces ps) ≤ length ps → length (pick t (p ∷ otherPlaces ps) (otherPlaces ps)) ≤ length (p ∷ ps)
-    go true h = omega arith
-    go false h = omega arith
-
 pub listed-length : (base : ℕ) (ps : List Place) → length (listed base ps) ≤ 10 * length ps
 listed-length base ps = omega (arith, octets-length (map (moved base) (otherPlaces ps)), length-map (otherPlaces ps) (moved base), others-fewer ps)
-
--- the number of the others is that of the walk
-pub count-known : {v : List ℕ} {s : Parts} (r : Read v s) → s .«other_count» ≡ length (otherPlaces (r .known .places))
-count-known {v} {s} r = ap (λ (s : Parts). s .«other_count») (r .known .parts) ∙ others-count v nothing (r .known .places) ∙ omega arith
-
-pub walk-few : {v : List ℕ} {s : Parts} (r : Read v s) → length (r .known .places) ≤ most
-walk-few {v} {s} r = omega (arith, places-few v 4 (r .known .places) (r .known .walked), r .known .within)
-
-pub count-small : {v : List ℕ} {s : Parts} (r : Read v s) → s .«other_count» ≤ most
-count-small r = omega (arith, count-known r, others-fewer (r .known .places), walk-few r)
 
 -- how far they are stored
 pub record Listing (v : List ℕ) (base : ℕ) (d : List ℕ) (at n from : ℕ) (out : List ℕ) (to : ℕ) : Type 0 where

@@ -9,7 +9,7 @@ use Rattle.parameter.specs.declared.Place.{Place}
 use Rattle.parameter.specs.Parameter.{two, four}
 use Rattle.parameter.specs.Walk.{places, valued}
 use Rattle.address.specs.Address.{Title, Address, indicator, addressIn}
-use Rattle.address.specs.Parts.{otherPlaces}
+use Rattle.address.specs.Listing.{otherPlaces}
 use Rattle.message.specs.Types.{classOf, typeOf}
 use Rattle.message.specs.Message.{readHeader}
 use Rattle.form.specs.Form.{isAddress}

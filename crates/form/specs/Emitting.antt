@@ -2,22 +2,19 @@
 -- for. No public contract cites these.
 use Prim.Native.Nat.{ℕ, _+_, _%_}
 use mathlib.Core.Path.{_≡_}
-use mathlib.Core.Bool.{false}
 use mathlib.Core.List.{List, [], _∷_, _++_, map}
 use lib.ListN.{length, getD, set}
 use lib.Dec.{ltb}
 use Rattle.bcd.specs.Outcome.{Outcome, accepted, pick, after, mapped, each}
-use Rattle.bcd.specs.Answers.{refusalOf, countedOf}
+use Rattle.bcd.specs.Answers.{countedOf}
 use Rattle.bcd.specs.Digits.{builtIn}
 use Rattle.parameter.specs.declared.Place.{Place}
 use Rattle.parameter.specs.Parameter.{two, four, twoAt}
 use Rattle.parameter.specs.Walk.{places}
 use Rattle.address.specs.declared.parts.Parts.{Parts}
-use Rattle.address.specs.declared.parts.Surveyed.{Surveyed}
-use Rattle.address.specs.declared.parts.Surveyed.the-variants as S
-use Rattle.address.specs.Address.{readAddress}
-use Rattle.address.specs.Parts.{keptTitle, keptCode, keptSub, otherPlaces}
-use Rattle.address.specs.Plan.{Walked, placesIn}
+use Rattle.address.specs.Parts.{keptTitle, keptCode, keptSub}
+use Rattle.address.specs.Listing.{otherPlaces}
+use Rattle.address.specs.Plan.{placesIn}
 use Rattle.form.specs.declared.account.Accounts.{Accounts}
 use Rattle.form.specs.Account.{placesOctets, marked, titleFields, moved, paramAccount}
 
@@ -38,15 +35,6 @@ pub record Emitted (d : List ℕ) (at : ℕ) (os : List ℕ) (end : ℕ) (last :
 pub record Tried (d : List ℕ) (at : ℕ) (o : Outcome (List ℕ)) (answer : Outcome ℕ) (last : List ℕ) : Type 0 where
   pub told : answer ≡ mapped (λ os. at + length os) o
   pub held : (os : List ℕ) → o ≡ accepted os → last ≡ emit d at os
-
--- An address value that was read, by its parts.
-pub record Read (v : List ℕ) (s : Parts) : Type 0 where
-  pub known : Walked v s
-  pub whole : s .short .there ≡ false
-
-abbrev pub ReadOf : List ℕ → Surveyed → Type 0
-ReadOf v (S.Parts s) = Read v s
-ReadOf v (S.Refused r) = readAddress builtIn v ≡ refusalOf r
 
 -- The fields of the others, and of an address, from its parts.
 abbrev pub othersFields : (base : ℕ) → List ℕ → Parts → List ℕ

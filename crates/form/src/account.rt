@@ -3,13 +3,10 @@
 use crate::be16;
 use crate::be32;
 use crate::is_address;
-use address::Routing;
-use address::RoutingIndicator;
-use address::interpret::too_short;
+use address::interpret::interpret;
 use address::parts::Kept;
 use address::parts::Parts;
 use address::parts::Surveyed;
-use address::parts::survey;
 use address::rewrite::is_other;
 use bcd::error::Counted;
 use bcd::error::Refusal;
@@ -26,11 +23,12 @@ ghost use Rattle.bcd.specs.Outcome.{most, deliver};
 ghost use Rattle.bcd.specs.Answers.{countedOf};
 ghost use Rattle.bcd.specs.Digits.{builtIn};
 ghost use Rattle.parameter.specs.Parameter.{four};
-ghost use Rattle.address.specs.Parts.{titleAt, keptTitle, keptCode, keptSub, otherPlaces};
-ghost use Rattle.address.specs.Plan.{HeldIn};
+ghost use Rattle.address.specs.Parts.{titleAt, keptTitle, keptCode, keptSub};
+ghost use Rattle.address.specs.Listing.{otherPlaces};
+ghost use Rattle.address.specs.Plan.{HeldIn, Read};
 ghost use Rattle.form.specs.Passes.{sumOf};
 ghost use Rattle.form.specs.Account.{placeOctets, placesOctets, marked, titleFields, moved, addressAccount, account};
-ghost use Rattle.form.specs.Emitting.{Emitted, Tried, Read, ReadOf, othersFields, partsFields, Further, Accounted};
+ghost use Rattle.form.specs.Emitting.{Emitted, Tried, othersFields, partsFields, Further, Accounted};
 
 // Where the account of the parameters ends, or why it is refused; and how many parameters there are.
 struct Accounts {
@@ -208,37 +206,6 @@ fn others(value: &[u8], parts: Parts, base: usize, at: usize, out: &mut [u8]) ->
         }
     }
     to
-}
-
-// Reads an address value by its parts. 12, 1, 8, 5 or 6 of the walk, then each sub-parameter's 1 or 6.
-fn interpret(value: &[u8]) -> Surveyed
-    ensures { λ r. ⌜ ReadOf (now (value .entry)) r ⌝ }
-{
-    let n = value.len();
-    if 1048576 < n {
-        return Surveyed::Refused(Refusal::TooManyOctets(n));
-    }
-    if n < 4 {
-        return Surveyed::Refused(Refusal::TooShort {
-            expected: 4,
-            actual: n,
-        });
-    }
-    let routing = be16(value[0], value[1]);
-    let Routing::Indicator(_) = RoutingIndicator::from_u16(routing) else {
-        return Surveyed::Refused(Refusal::InvalidRoutingIndicator(routing));
-    };
-    match survey(value) {
-        Surveyed::Refused(r) => Surveyed::Refused(r),
-        Surveyed::Parts(parts) => {
-            let short = parts.short;
-            if short.there {
-                let place = short.place;
-                return Surveyed::Refused(too_short(place));
-            }
-            Surveyed::Parts(parts)
-        }
-    }
 }
 
 // Stores the fields of an address value that was read.

@@ -2,10 +2,9 @@
 use borrow.Author.Needs.{needs}
 use Prim.Native.Nat.{ℕ, _≤_}
 use mathlib.Core.Bool.{Bool, true, false}
-use mathlib.Core.List.{List}
 use mathlib.Core.Path.{_≡_, sym, ap, _∙_}
 use native.Mathlib.Omega.{arith}
-use Rattle.bcd.specs.Outcome.{refused, pick, mapped, each, most}
+use Rattle.bcd.specs.Outcome.{pick, mapped, each, most}
 use Rattle.bcd.specs.Answers.{countedOf}
 use Rattle.bcd.specs.Digits.{builtIn}
 use Rattle.bcd.specs.declared.error.Counted.{Counted}
@@ -13,13 +12,13 @@ use Rattle.parameter.specs.Parameter.{runLength}
 use Rattle.address.specs.Address.{title, present, subParam}
 use Rattle.address.specs.Parts.{keptTitle}
 use Rattle.address.proofs.Planning.{sound, others-small, kept-small, mapped-refused}
-use Rattle.address.proofs.Plans.{plan-short, plan-unknown, plan-long, plan-made}
+use Rattle.address.proofs.Plans.{plan-unknown, plan-long, plan-made}
 use Rattle.address.proofs.interpret.measure.Statement.{statement}
 use Rattle.address.proofs.interpret.measure.Tie as tie
 
 -- the title's answer
 answered : (c : tie.After-title-length) (r : Counted) → c .title-length .result ≡ r
-    → countedOf r ≡ mapped runLength (each (subParam builtIn) (present title (keptTitle builtIn (c .before .before .before .before .before .args .value .now) (c .before .before .before .before .before .args .parts .title))))
+    → countedOf r ≡ mapped runLength (each (subParam builtIn) (present title (keptTitle builtIn (c .before .before .before .args .value .now) (c .before .before .before .args .parts .title))))
 answered c r e = sym (ap countedOf e) ∙ c .title-length .ensures
 
 -- the sum fits
@@ -33,32 +32,23 @@ eight : (b : Bool) (n : ℕ) → n ≡ pick b 8 0 → n ≤ 8
 eight true n e = omega arith
 eight false n e = omega arith
 
-small : (c : tie.After-four-length2) → Small (c .before .before .before .before .before .n .given .0 .0) (c .before .four-length .result) (c .four-length2 .result) (c .before .before .before .before .before .before .before .before .before .before .before .before .args .parts .«other_length»)
+small : (c : tie.After-four-length2) → Small (c .before .before .before .before .before .n .given .0 .0) (c .before .four-length .result) (c .four-length2 .result) (c .before .before .before .before .before .before .before .before .before .before .args .parts .«other_length»)
 small c =
     let f = c .before in
     let n = f .before .before .before .before in
     let t = n .before .before in
-    let s = t .before .before .before .before .before in
+    let s = t .before .before .before in
     record {
       title = kept-small (s .args .value .now) (s .args .parts .title) _ (answered t _ (n .n .given .1));
       code = eight (s .args .parts .code .there) _ (f .four-length .ensures);
       ssn = eight (s .args .parts .ssn .there) _ (c .four-length2 .ensures);
-      other = others-small (s .pre);
+      other = others-small (s .pre .known);
     }
-
-too-short-requires : tie.Need-too-short-requires
-too-short-requires c κs = search needs
-
-returns : tie.Need-returns
-returns c =
-    let t = c .before .before in
-    let s = t .before .before .before in
-    plan-short (s .pre) (s .args .tag) (t .if1 .taken) ∙ ap (λ (n : ℕ × List ℕ). refused (n .0) (n .1)) (sym (c .too-short .ensures))
 
 title-length-requires : tie.Need-title-length-requires
 title-length-requires c κs =
-    let s = c .before .before .before .before in
-    (sound (s .pre) (c .before .if1 .left) .title, s .pre .within)
+    let s = c .before .before in
+    (sound (s .pre .known) (s .pre .whole) .title, s .pre .known .within)
 
 enum-known-r : tie.Need-enum-known-r
 enum-known-r c = search needs
@@ -70,7 +60,7 @@ add-length : tie.Need-add-length
 add-length c =
     let n = c .before .before .before in
     let t = n .before .before in
-    let s = t .before .before .before .before .before in
+    let s = t .before .before .before in
     let l = kept-small (s .args .value .now) (s .args .parts .title) _ (answered t _ (n .n .given .1)) in
     omega arith
 
@@ -81,7 +71,7 @@ add-length-2 : tie.Need-add-length-2
 add-length-2 c =
     let n = c .before .before .before .before in
     let t = n .before .before in
-    let s = t .before .before .before .before .before in
+    let s = t .before .before .before in
     let l = kept-small (s .args .value .now) (s .args .parts .title) _ (answered t _ (n .n .given .1)) in
     let e = eight (s .args .parts .code .there) _ (c .four-length .ensures) in
     omega arith
@@ -95,40 +85,35 @@ add-length-3 c = let l = small c in omega arith
 add-length-4 : tie.Need-add-length-4
 add-length-4 c = let l = small (c .before) in omega arith
 
-returns-2 : tie.Need-returns-2
-returns-2 c =
+returns : tie.Need-returns
+returns c =
     let f = c .before .before in
     let l = small f in
     let n = f .before .before .before .before .before in
     let t = n .before .before in
-    let k = t .before .before in
-    let s = k .before .before .before in
-    plan-long (s .pre) (k .if1 .left) (n .n .given .0 .0) _ (answered t _ (n .n .given .1))
-    (rw (f .before .four-length .ensures, f .four-length2 .ensures)) (s .args .tag) (c .if2 .taken) (omega arith)
+    let s = t .before .before .before in
+    plan-long (s .pre) (n .n .given .0 .0) _ (answered t _ (n .n .given .1))
+    (rw (f .before .four-length .ensures, f .four-length2 .ensures)) (s .args .tag) (c .if1 .taken) (omega arith)
+
+returns-2 : tie.Need-returns-2
+returns-2 c =
+    let t = c .before .before .before in
+    let s = t .before .before .before in
+    plan-unknown (s .pre) (s .args .tag) _ _ (mapped-refused runLength _ (answered t _ (c .before .r .given .1)))
 
 returns-3 : tie.Need-returns-3
 returns-3 c =
-    let t = c .before .before .before in
-    let k = t .before .before in
-    let s = k .before .before .before in
-    plan-unknown (s .pre) (s .args .tag) (k .if1 .left) _ _ (mapped-refused runLength _ (answered t _ (c .before .r .given .1)))
-
-returns-4 : tie.Need-returns-4
-returns-4 c =
     let f = c .before .before in
     let n = f .before .before .before .before .before in
     let t = n .before .before in
-    let k = t .before .before in
-    let s = k .before .before .before in
-    plan-made (s .pre) (k .if1 .left) (n .n .given .0 .0) _ (answered t _ (n .n .given .1))
-    (rw (f .before .four-length .ensures, f .four-length2 .ensures)) (c .if2 .left)
+    let s = t .before .before .before in
+    plan-made (s .pre) (n .n .given .0 .0) _ (answered t _ (n .n .given .1))
+    (rw (f .before .four-length .ensures, f .four-length2 .ensures)) (c .if1 .left)
 
 pub measure-spec : {M : Type 1} → statement M
 measure-spec =
     tie.close
     (tie.spec
-    too-short-requires
-    returns
     title-length-requires
     enum-known-r
     enum-known-n
@@ -138,6 +123,6 @@ measure-spec =
     four-length-requires-2
     add-length-3
     add-length-4
+    returns
     returns-2
-    returns-3
-    returns-4)
+    returns-3)

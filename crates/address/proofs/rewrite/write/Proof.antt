@@ -89,7 +89,7 @@ subbed c =
 write-head-requires : tie.Need-write-head-requires
 write-head-requires c κs =
     let s = c .before .before .before .before .before .before in
-    (s .pre .0 .known .long, omega (arith, planned-length (s .pre .0), s .pre .1))
+    (s .pre .0 .read .known .long, omega (arith, planned-length (s .pre .0), s .pre .1))
 
 sub-write-title : tie.Need-sub-write-title
 sub-write-title c = let h = headed (c .before .before) in omega (arith, h .fits, h .same)
@@ -105,7 +105,7 @@ write-title-requires c κs =
     let w = c .before .before .before in
     let s = start w in
     let p = s .pre .0 in
-    (sound (p .known) (p .whole) .title, ready-behind 4 (headed w) refl _ (titles w) (planned-pieces p .title) (omega (arith, planned-length p, s .pre .1)))
+    (sound (p .read .known) (p .read .whole) .title, ready-behind 4 (headed w) refl _ (titles w) (planned-pieces p .title) (omega (arith, planned-length p, s .pre .1)))
 
 add-a : tie.Need-add-a
 add-a c = let t = c .before .before in let s = start (head-of t) in omega (arith, titled t .count, planned-length (s .pre .0), s .pre .0 .fits)
@@ -125,7 +125,7 @@ write-code-requires c κs =
     let s = start (head-of t) in
     let p = s .pre .0 in
     let y = titled t in (
-      sound (p .known) (p .whole) .code,
+      sound (p .read .known) (p .read .whole) .code,
       ready-behind (4 + t .write-title .result) (y .begun) (y .place) _ (codes p) (code-params (keptCode (s .args .value .now) (s .args .parts .code))) (omega (arith, planned-length p, s .pre .1, y .count)),
     )
 
@@ -149,7 +149,7 @@ write-ssn-requires c κs =
     let p = s .pre .0 in
     let x = titled t in
     let y = coded k in (
-      sound (p .known) (p .whole) .ssn,
+      sound (p .read .known) (p .read .whole) .ssn,
       ready-behind (4 + t .write-title .result + k .write-code .result) (y .begun) (y .place) _ (subs p) (sub-params (keptSub (s .args .value .now) (s .args .parts .ssn))) (omega (arith, planned-length p, s .pre .1, x .count, y .count)),
     )
 
@@ -174,7 +174,7 @@ write-others-requires c κs =
     let p = s .pre .0 in
     let at = 4 + t .write-title .result + k .write-code .result + u .write-ssn .result in
     let l = lent-length (fourth u) at in
-    (p .known, omega (arith, planned-others p, planned-length p, s .pre .1, titled t .count, coded k .count, subbed u .count, subbed u .begun .same))
+    (p .read .known, omega (arith, planned-others p, planned-length p, s .pre .1, titled t .count, coded k .count, subbed u .count, subbed u .begun .same))
 
 same-length : tie.Need-same-length
 same-length c = search needs

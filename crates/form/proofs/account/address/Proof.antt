@@ -1,17 +1,26 @@
 -- `form::account::address` meets its contract.
-use Prim.Native.Nat.{_-_}
-use mathlib.Core.Path.{_≡_, subst}
+use mathlib.Core.Path.{_≡_, sym, ap, _∙_}
 use native.Mathlib.Omega.{arith}
 use Rattle.address.specs.declared.parts.Surveyed.{Surveyed}
-use Rattle.form.specs.Emitting.{ReadOf}
+use Rattle.address.specs.declared.parts.Surveyed.the-variants as S
+use Rattle.address.specs.declared.parts.Parts.{Parts}
+use Rattle.address.specs.Parts.{surveyedOf, interpreted}
+use Rattle.address.specs.Plan.{Read}
+use Rattle.address.proofs.Interpreted.{interpreted-read, interpreted-refused}
+use Rattle.bcd.proofs.Outcomes.{octets-of}
 use Rattle.form.proofs.Accounting.{parts-small, account-read, account-refused, tried-refused, tried-done}
 use borrow.Author.Needs.{needs}
 use Rattle.form.proofs.account.address.Statement.{statement}
 use Rattle.form.proofs.account.address.Tie as tie
 
 -- what was read
-read : (c : tie.After-interpret) (r : Surveyed) → c .interpret .result ≡ r → ReadOf (c .before .before .before .args .value .now) r
-read c r e = subst (ReadOf (c .before .before .before .args .value .now)) e (c .interpret .ensures)
+answered : (c : tie.After-interpret) (r : Surveyed) → c .interpret .result ≡ r → surveyedOf r ≡ interpreted (c .before .before .before .args .value .now)
+answered c r e = sym (ap surveyedOf e) ∙ c .interpret .ensures
+
+read : (c : tie.After-interpret) (s : Parts) → c .interpret .result ≡ S.Parts s → Read (c .before .before .before .args .value .now) s
+read c s e =
+    let v = c .before .before .before .args .value .now in
+    interpreted-read (octets-of v (λ i. c .before .before .shared-slice-known .given i .fits)) (answered c _ e)
 
 interpret-requires : tie.Need-interpret-requires
 interpret-requires c κs = search needs
@@ -30,7 +39,7 @@ fields-requires c κs =
 returns : tie.Need-returns
 returns c =
     let s = c .before .before .before .before .before .before in
-    let e = read (c .before .before .before) _ (c .before .r .given .1) in
+    let e = interpreted-refused (s .args .value .now) _ _ (answered (c .before .before .before) _ (c .before .r .given .1)) in
     (omega arith, tried-refused (s .args .at) _ _ _ (account-refused (s .args .base) (s .args .value .now) _ _ (omega (arith, s .pre .0)) e))
 
 same-length : tie.Need-same-length

@@ -10,7 +10,8 @@ use Rattle.parameter.specs.Answers.{stepOf}
 use Rattle.parameter.proofs.Walking.{step-inv}
 use Rattle.parameter.proofs.Reaching.{reached-out, reached-end, reached-refused}
 use Rattle.form.proofs.Emission.{emitted-more, emitted-same}
-use Rattle.form.proofs.OtherPlaces.{count-small, Listing, listing-start, listing-few, listing-more, listing-done}
+use Rattle.address.proofs.Others.{count-small}
+use Rattle.form.proofs.OtherPlaces.{Listing, listing-start, listing-few, listing-more, listing-done}
 use borrow.Author.Needs.{needs}
 use Rattle.form.proofs.account.others.Statement.{statement}
 use Rattle.form.proofs.account.others.Tie as tie
@@ -32,7 +33,7 @@ stepped c s e =
     sym (bounded-within xs (stepAt xs at) (start c .pre .0 .known .within)) ∙ sym (c .step .ensures) ∙ ap stepOf e
 
 put-four-requires : tie.Need-put-four-requires Inv-loop μ-loop
-put-four-requires c κs = let s = c .before .before .before in (omega (arith, count-small (s .pre .0)), omega (arith, s .pre .1 .1))
+put-four-requires c κs = let s = c .before .before .before in (omega (arith, count-small (s .pre .0 .known)), omega (arith, s .pre .1 .1))
 
 loop-holds : tie.Need-loop-holds Inv-loop μ-loop
 loop-holds c = listing-start _ _ _ _

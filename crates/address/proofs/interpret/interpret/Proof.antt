@@ -1,29 +1,23 @@
--- `form::account::interpret` meets its contract.
-use Prim.Native.Nat.{ℕ, _-_, _≤_, _<_}
+-- `address::interpret::interpret` meets its contract.
+use Prim.Native.Nat.{ℕ, _≤_, _<_}
 use mathlib.Core.Path.{_≡_, sym, ap, _∙_, subst}
 use mathlib.Core.List.{List, [], _∷_}
-use Rattle.bcd.specs.Outcome.{Outcome, accepted, refused, mapped}
+use Rattle.bcd.specs.Outcome.{refused, mapped}
 use Rattle.bcd.specs.Digits.{builtIn}
 use Rattle.bcd.proofs.Outcomes.{octets-of, bounded-within}
 use Rattle.parameter.specs.Parameter.{twoAt}
 use Rattle.parameter.specs.Walk.{places}
-use Rattle.address.specs.Parts.{nothing, noteAll, surveyedOf, shortNumbers, judged}
-use mathlib.Core.Bool.{true}
-use Rattle.address.specs.declared.parts.Kept.{Kept}
+use Rattle.address.specs.Parts.{nothing, noteAll, surveyedOf}
 use Rattle.address.specs.Plan.{Walked}
 use Rattle.address.specs.declared.parts.Parts.{Parts}
 use Rattle.address.specs.declared.parts.Surveyed.{Surveyed}
 use Rattle.address.specs.declared.parts.Surveyed.the-variants as S
 use Rattle.address.proofs.Interpreting.{read-beyond, read-few, read-unrouted, read-unwalked, routing-known, routing-unknown}
 use Rattle.address.proofs.Planning.{mapped-refused, walked}
-use Rattle.address.proofs.Plans.{address, read-known}
+use Rattle.address.proofs.Interpreted.{read-short, read-interpreted, refused-interpreted}
 use borrow.Author.Needs.{needs}
-use Rattle.form.proofs.account.interpret.Statement.{statement}
-use Rattle.form.proofs.account.interpret.Tie as tie
-
--- a sub-parameter that is too short
-told : {X : Type 0} (o : Outcome X) (k : Kept) (n : ℕ × List ℕ) → k .there ≡ true → n ≡ shortNumbers (k .place) → judged k o ≡ refused (n .0) (n .1)
-told o k n t e = rw (t, e)
+use Rattle.address.proofs.interpret.interpret.Statement.{statement}
+use Rattle.address.proofs.interpret.interpret.Tie as tie
 
 -- the routing indicator is that of the definition
 routed : (c : tie.After-be16) → c .be16 .result ≡ twoAt (c .before .before .before .before .before .before .args .value .now) 0
@@ -48,10 +42,12 @@ known c s e =
     walked v s (octets-of v (λ i. c .before .before .before .before .before .before .before .before .before .shared-slice-known .given i .fits)) (c .before .before .before .before .before .before .before .before .if1 .left) (c .before .before .before .before .before .before .before .if2 .left) (routing c) (surveyed c _ e)
 
 returns : tie.Need-returns
-returns c = read-beyond builtIn (c .before .before .args .value .now) (c .if1 .taken)
+returns c = let v = c .before .before .args .value .now in refused-interpreted v _ _ (read-beyond builtIn v (c .if1 .taken))
 
 returns-2 : tie.Need-returns-2
-returns-2 c = read-few builtIn (c .before .before .before .args .value .now) (c .before .if1 .left) (c .if2 .taken)
+returns-2 c =
+    let v = c .before .before .before .args .value .now in
+    refused-interpreted v _ _ (read-few builtIn v (c .before .if1 .left) (c .if2 .taken))
 
 shared-slice-read-be16 : tie.Need-shared-slice-read-be16
 shared-slice-read-be16 c = search needs
@@ -78,7 +74,7 @@ returns-3 c =
     let e = c .before .before .before .before .before .before in
     let a = c .before .before .before .before .before .before .before .before .before .args in
     let h = subst (λ (n : ℕ). 4 < n) (routed b) (routing-unknown _ _ _ (f .from-u16 .ensures) (c .enum-told2 .given .1)) in
-    read-unrouted builtIn (a .value .now) (e .before .if1 .left) (e .if2 .left) h ∙ ap (λ (n : ℕ). refused 8 (n ∷ [])) (sym (routed b))
+    refused-interpreted (a .value .now) _ _ (read-unrouted builtIn (a .value .now) (e .before .if1 .left) (e .if2 .left) h ∙ ap (λ (n : ℕ). refused 8 (n ∷ [])) (sym (routed b)))
 
 survey-requires : tie.Need-survey-requires
 survey-requires c κs = search needs
@@ -98,19 +94,19 @@ returns-4 c =
     let part = c .before .before .before .before .before .parts .given .0 .0 in
     let k = known y part (c .before .before .before .before .before .parts .given .1) in
     let t = c .before .before .if3 .taken in
-    read-known k 0 ∙ told (accepted (address k 0)) (part .short) _ t (c .too-short .ensures)
+    refused-interpreted (start y .args .value .now) _ _ (read-short k t ∙ ap (λ (n : ℕ × List ℕ). refused (n .0) (n .1)) (sym (c .too-short .ensures)))
 
 returns-5 : tie.Need-returns-5
 returns-5 c =
     let y = c .before .before .before in
     let e = c .before .before .before .before .before .before .before .before .before .before in
     let a = c .before .before .before .before .before .before .before .before .before .before .before .before .before .args in
-    read-unwalked builtIn (a .value .now) (e .before .if1 .left) (e .if2 .left) _ _ (routing y) (mapped-refused (noteAll nothing) _ (surveyed y _ (c .before .r .given .1)))
+    refused-interpreted (a .value .now) _ _ (read-unwalked builtIn (a .value .now) (e .before .if1 .left) (e .if2 .left) _ _ (routing y) (mapped-refused (noteAll nothing) _ (surveyed y _ (c .before .r .given .1))))
 
 returns-6 : tie.Need-returns-6
 returns-6 c =
     let y = c .before .before .before .before .before in
-    record { known = known y _ (c .before .before .before .parts .given .1); whole = c .if3 .left }
+    read-interpreted (record { known = known y _ (c .before .before .before .parts .given .1); whole = c .if3 .left })
 
 pub interpret-spec : {M : Type 1} → statement M
 interpret-spec =

@@ -132,7 +132,7 @@ module _ (A : Alphabet) (v : List ℕ) where
           bounded-within v (addressIn A v) within ∙ rw (le-leb 4 (length v) long, le-leb (twoAt v 0) 4 routing, params)
 
 -- The routing indicator, by the answer of the code.
-routing-in : (n : ℕ) → n ≤ 4 → routingIn n ≡ accepted n
+pub routing-in : (n : ℕ) → n ≤ 4 → routingIn n ≡ accepted n
 routing-in n h = rw (le-leb n 4 h)
 
 routing-out : (n : ℕ) → 4 < n → routingIn n ≡ refused 8 (n ∷ [])

@@ -10,6 +10,7 @@ use native.Mathlib.Omega.{arith}
 use borrow.Author.Tests.{le-leb, lt-leb, lt-ltb, le-ltb, ne-eqb, eqb-true}
 use lib.Dec.{eqb}
 use lib.ListN.{length, getD, drop, length-take, length-drop}
+use lib.Seq.{getD-take, getD-drop}
 use Rattle.bcd.specs.Outcome.{Outcome, accepted, refused, pick, after, mapped, each, All}
 use Rattle.bcd.specs.Digits.{Alphabet}
 use Rattle.bcd.proofs.Outcomes.{le-or-lt}
@@ -80,6 +81,10 @@ module _ (v : List ℕ) where
 
   pub value-length : (p : Place) → Inside p → length (valued v p .value) ≡ p .length
   value-length p h = rw (length-take (p .length) (drop (p .start) v), length-drop (p .start) v) (omega arith)
+
+  -- its octets, by their places in the whole
+  pub value-at : (p : Place) (i : ℕ) → i < p .length → getD (valued v p .value) i 0 ≡ getD v (p .start + i) 0
+  value-at p i h = getD-take (p .length) (drop (p .start) v) i 0 h ∙ getD-drop (p .start) v i 0
 
 module _ (A : Alphabet) (v : List ℕ) where
   -- the piece that a sub-parameter is, if it is long enough

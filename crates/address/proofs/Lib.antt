@@ -16,3 +16,5 @@ pub mod Titling
 pub mod Copying
 pub mod Delivering
 pub mod TitleRecords
+pub mod AddressRecords
+pub mod Tabling

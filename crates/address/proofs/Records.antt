@@ -3,12 +3,12 @@ use Prim.Native.Nat.{ℕ, _≤_}
 use mathlib.Core.Path.{_≡_, refl, sym, ap, _∙_}
 use mathlib.Core.Bool.{Bool, true, false}
 use mathlib.Core.Option.{none, some}
-use mathlib.Core.List.{[], _∷_}
+use mathlib.Core.List.{[]}
 use lib.Dec.{lit≤}
-use lib.ListN.{getD}
 use Rattle.bcd.proofs.Outcomes.{accepted-inj, never}
 use Rattle.bcd.proofs.Distinct.{refusals-distinct}
 use Rattle.address.specs.Records.{routingValue, routingOf, titleOf, flagged, addressOf, withGt, withSsnPc}
+use Rattle.address.specs.Listing.{routingNamed}
 use Rattle.address.specs.declared.RoutingIndicator.{RoutingIndicator}
 use Rattle.address.specs.declared.RoutingIndicator.the-variants as I
 use Rattle.address.specs.declared.Routing.{Routing}
@@ -22,11 +22,7 @@ routing-small I.RouteOnSsnAndPc = lit≤ tt
 routing-small I.RouteOnHostname = lit≤ tt
 routing-small I.RouteOnSsnAndIp = lit≤ tt
 
--- the routing indicator of a number
-abbrev named : ℕ → RoutingIndicator
-named n = getD (I.Reserved ∷ I.RouteOnGlobalTitle ∷ I.RouteOnSsnAndPc ∷ I.RouteOnHostname ∷ I.RouteOnSsnAndIp ∷ []) n I.Reserved
-
-named-back : (i : RoutingIndicator) → named (routingValue i) ≡ i
+pub named-back : (i : RoutingIndicator) → routingNamed (routingValue i) ≡ i
 named-back I.Reserved = refl
 named-back I.RouteOnGlobalTitle = refl
 named-back I.RouteOnSsnAndPc = refl
@@ -35,7 +31,7 @@ named-back I.RouteOnSsnAndIp = refl
 
 -- Distinct answers have distinct outcomes: a contract through `routingOf` says all that one on the enum itself would.
 pub routing-distinct : (r s : Routing) → routingOf r ≡ routingOf s → r ≡ s
-routing-distinct (R.Indicator i) (R.Indicator j) e = ap R.Indicator (sym (named-back i) ∙ ap named (accepted-inj e) ∙ named-back j)
+routing-distinct (R.Indicator i) (R.Indicator j) e = ap R.Indicator (sym (named-back i) ∙ ap routingNamed (accepted-inj e) ∙ named-back j)
 routing-distinct (R.Indicator i) (R.Refused r) e = absurd (never (sym e))
 routing-distinct (R.Refused r) (R.Indicator j) e = absurd (never e)
 routing-distinct (R.Refused r) (R.Refused s) e = ap R.Refused (refusals-distinct r s e)

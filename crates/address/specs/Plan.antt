@@ -1,11 +1,11 @@
 -- Steps of the code between its public calls: an address value that was interpreted, and can be written. No public
 -- contract cites these.
-use Prim.Native.Nat.{ℕ, _+_, _%_, _≤_}
+use Prim.Native.Nat.{ℕ, _+_, _%_, _≤_, _<_}
 use mathlib.Core.Path.{_≡_}
 use mathlib.Core.Bool.{true, false}
 use mathlib.Core.List.{List, [], _++_, map}
-use lib.ListN.{length, getD}
-use Rattle.bcd.specs.Outcome.{Outcome, accepted, refused, after, each, Octets, most}
+use lib.ListN.{length, getD, set}
+use Rattle.bcd.specs.Outcome.{Outcome, accepted, refused, pick, after, each, Octets, most}
 use Rattle.bcd.specs.Answers.{refusalOf}
 use Rattle.bcd.specs.Digits.{builtIn}
 use Rattle.parameter.specs.Parameter.{Param, two, twoAt, runOctets, runLength, mostValue}
@@ -14,7 +14,7 @@ use Rattle.parameter.specs.Walk.{valued}
 use Rattle.parameter.specs.declared.Place.{Place}
 use Rattle.address.specs.Address.{subParam, readAddress, writeAddress}
 use Rattle.address.specs.Parts.{nothing, noteAll, keptPieces}
-use Rattle.address.specs.Listing.{otherPlaces}
+use Rattle.address.specs.Listing.{isOther, otherPlaces}
 use Rattle.address.specs.declared.parts.Kept.{Kept}
 use Rattle.address.specs.declared.parts.Parts.{Parts}
 use Rattle.address.specs.declared.interpret.Planned.{Planned}
@@ -71,3 +71,11 @@ placesIn (refused n vs) = []
 
 unfoldable pub othersOctets : List ℕ → List ℕ
 othersOctets v = runOctets (map (valued v) (otherPlaces (placesIn (Walk.places v 4))))
+
+-- A column of a lent table has a row for a sub-parameter, where it is another one.
+abbrev pub HasRow : Place → (row : ℕ) → List ℕ → Type 0
+HasRow p row held = isOther (p .tag) ≡ true → row < length held
+
+-- A column of a lent table, with a sub-parameter stored in a row where it is another one.
+abbrev pub rowed : Place → (row x : ℕ) → List ℕ → List ℕ
+rowed p row x held = pick (isOther (p .tag)) (set held row x) held

@@ -27,7 +27,7 @@ use Rattle.form.specs.Form.{isAddress}
 use Rattle.form.specs.Account.{placeOctets, marked, titleFields, addressFields, moved, addressAccount, paramAccount}
 use Rattle.form.specs.Emitting.{emit, Emitted, Tried, othersFields, partsFields, Further}
 use Rattle.form.proofs.Emission.{emitted-more}
-use Rattle.form.proofs.Describing.{value-at}
+use Rattle.address.proofs.Keeping.{value-at}
 use Rattle.address.proofs.Others.{count-known, walk-few}
 use Rattle.form.proofs.OtherPlaces.{listed, listed-length}
 

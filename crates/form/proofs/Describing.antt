@@ -5,7 +5,7 @@ use mathlib.Core.Bool.{true, false}
 use mathlib.Core.List.{List, [], _∷_, map, append-nil}
 use native.Mathlib.Omega.{arith}
 use lib.ListN.{length, getD, take, drop, replicate, length-append, length-drop}
-use lib.Seq.{take-at, take-all, getD-take, getD-drop}
+use lib.Seq.{take-at}
 use Rattle.bcd.specs.Outcome.{Outcome, accepted, refused, most, deliver}
 use Rattle.bcd.specs.Digits.{builtIn, digitsIn, readDigits}
 use Rattle.bcd.proofs.Outcomes.{accepted-inj, never, bounded-within, deliver-answer, deliver-buffer}
@@ -17,6 +17,7 @@ use Rattle.parameter.proofs.Running.{part-of}
 use Rattle.address.specs.Parts.{titleAt, keptTitle, keptCode, keptSub}
 use Rattle.address.specs.Listing.{isOther, otherPlaces}
 use Rattle.address.specs.declared.parts.Kept.{Kept}
+use Rattle.address.proofs.Keeping.{value-at}
 use Rattle.form.specs.Account.{placeOctets, placesOctets, marked, titleFields, moved}
 use Rattle.form.specs.Emitting.{Emitted}
 
@@ -74,9 +75,6 @@ title-stored v n ds {d} {last} {at} {end} r x =
 abbrev pub lentPart : List ℕ → Place → List ℕ
 lentPart v p = take (p .start + p .length - p .start) (drop (p .start) v)
 
-pub whole-part : (a : ℕ) (v : List ℕ) → take (length v - a) (drop a v) ≡ drop a v
-whole-part a v = take-all (length v - a) (drop a v) (omega (arith, length-drop a v))
-
 -- a part that is kept, or none
 module _ (v : List ℕ) (k : Kept) {d last : List ℕ} {at end : ℕ} where
   pub title-there : k .there ≡ true → Emitted d at (1 ∷ titleFields (titleAt builtIn (lentPart v (k .place)))) end last → Emitted d at (marked titleFields (keptTitle builtIn v k)) end last
@@ -98,10 +96,6 @@ module _ (v : List ℕ) (k : Kept) {d last : List ℕ} {at end : ℕ} where
 
   pub sub-none : k .there ≡ false → Emitted d at (0 ∷ []) end last → Emitted d at (marked (λ (n : ℕ). n ∷ []) (keptSub v k)) end last
   sub-none t x = rw t x
-
--- the octets of a value, by their places in the whole
-pub value-at : (v : List ℕ) (p : Place) (i : ℕ) → i < p .length → getD (valued v p .value) i 0 ≡ getD v (p .start + i) 0
-value-at v p i h = getD-take (p .length) (drop (p .start) v) i 0 h ∙ getD-drop (p .start) v i 0
 
 pub four-value :
     (v : List ℕ) (p : Place) (high low n : ℕ)

@@ -14,13 +14,13 @@ use Rattle.parameter.specs.Walk.{found, stepAt}
 use Rattle.parameter.specs.Table.{Table, room, over, tabulate}
 use Rattle.parameter.proofs.Reaching.{Reached, reached-start, reached-next}
 
-abbrev tagOf : Place → ℕ
+abbrev pub tagOf : Place → ℕ
 tagOf p = p .tag
 
-abbrev startOf : Place → ℕ
+abbrev pub startOf : Place → ℕ
 startOf p = p .start
 
-abbrev lengthOf : Place → ℕ
+abbrev pub lengthOf : Place → ℕ
 lengthOf p = p .length
 
 pub record Filling (xs : List ℕ) (from : ℕ) (ts₀ ss₀ ls₀ ts ss ls : List ℕ) (n at : ℕ) : Type 0 where
@@ -30,7 +30,7 @@ pub record Filling (xs : List ℕ) (from : ℕ) (ts₀ ss₀ ls₀ ts ss ls : Li
   pub lengths : Begun ls₀ (map lengthOf (reached .done)) ls
 
 -- one column, one place more
-column :
+pub column :
     {out d : List ℕ} (f : Place → ℕ) (done : List Place) (p : Place) (n : ℕ)
     → Begun out (map f done) d
     → length done ≡ n
@@ -76,18 +76,28 @@ tabulate-fits :
 unfolding tabulate room
 tabulate-fits ps t a b c = rw (le-leb (length ps) (room t) (le-min a (le-min b c)))
 
+-- places whose three columns are stored are what the table holds
+pub columns-stored :
+    {ts₀ ss₀ ls₀ ts ss ls : List ℕ} (ps : List Place) (n : ℕ) (o : Outcome (List Place))
+    → Begun ts₀ (map tagOf ps) ts
+    → Begun ss₀ (map startOf ps) ss
+    → Begun ls₀ (map lengthOf ps) ls
+    → length ps ≡ n
+    → o ≡ accepted ps
+    → record { answer = accepted n; table = record { tags = ts; starts = ss; lengths = ls } } ≡ tabulate o (record { tags = ts₀; starts = ss₀; lengths = ls₀ })
+columns-stored {ts₀} {ss₀} {ls₀} {ts} {ss} {ls} ps n o t s l count e =
+    rw (e, t .holds, s .holds, l .holds, ← count)
+    (tabulate-fits ps (record { tags = ts₀; starts = ss₀; lengths = ls₀ })
+    (omega (arith, t .fits, length-map ps tagOf))
+    (omega (arith, s .fits, length-map ps startOf))
+    (omega (arith, l .fits, length-map ps lengthOf)))
+
 -- a walk that has come to the end has filled the table
 pub filled :
     {xs : List ℕ} {from : ℕ} {ts₀ ss₀ ls₀ ts ss ls : List ℕ} {n at : ℕ} (o : Outcome (List Place)) (f : Filling xs from ts₀ ss₀ ls₀ ts ss ls n at)
     → o ≡ accepted (f .reached .done)
     → record { answer = accepted n; table = record { tags = ts; starts = ss; lengths = ls } } ≡ tabulate o (record { tags = ts₀; starts = ss₀; lengths = ls₀ })
-filled {xs} {from} {ts₀} {ss₀} {ls₀} {ts} {ss} {ls} {n} o f e =
-    let ps = f .reached .done in
-    rw (e, f .tags .holds, f .starts .holds, f .lengths .holds, ← f .reached .counted)
-    (tabulate-fits ps (record { tags = ts₀; starts = ss₀; lengths = ls₀ })
-    (omega (arith, f .tags .fits, length-map ps tagOf))
-    (omega (arith, f .starts .fits, length-map ps startOf))
-    (omega (arith, f .lengths .fits, length-map ps lengthOf)))
+filled {n = n} o f e = columns-stored (f .reached .done) n o (f .tags) (f .starts) (f .lengths) (f .reached .counted) e
 
 -- what the count says of the table: too small by one of its slices, or refused
 pub table-small :

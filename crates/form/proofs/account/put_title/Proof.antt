@@ -11,7 +11,7 @@ use Rattle.bcd.specs.Outcome.{accepted, most, deliver}
 use Rattle.bcd.specs.Answers.{countedOf}
 use Rattle.bcd.specs.Digits.{builtIn, readDigits}
 use lib.ListN.{replicate}
-use Rattle.form.proofs.Describing.{whole-part}
+use Rattle.address.proofs.Planning.{whole-part}
 use borrow.Author.Needs.{needs}
 use Rattle.form.proofs.account.put_title.Statement.{statement}
 use Rattle.form.proofs.account.put_title.Tie as tie

@@ -3,7 +3,8 @@ use Prim.Native.Nat.{_-_}
 use mathlib.Core.Path.{sym}
 use native.Mathlib.Omega.{arith}
 use Rattle.form.proofs.Emission.{emitted-more}
-use Rattle.form.proofs.Describing.{sub-there, sub-none, value-at}
+use Rattle.address.proofs.Keeping.{value-at}
+use Rattle.form.proofs.Describing.{sub-there, sub-none}
 use borrow.Author.Needs.{needs}
 use Rattle.form.proofs.account.ssn.Statement.{statement}
 use Rattle.form.proofs.account.ssn.Tie as tie

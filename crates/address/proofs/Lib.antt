@@ -14,3 +14,5 @@ pub mod Titling
 pub mod Copying
 pub mod Delivering
 pub mod TitleRecords
+pub mod GivenParts
+pub mod Encoding

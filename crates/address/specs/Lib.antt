@@ -3,3 +3,5 @@ pub mod Records
 pub mod Parts
 pub mod Plan
 pub mod Titles
+pub mod Given
+pub mod GivenParts

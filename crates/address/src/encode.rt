@@ -3,6 +3,9 @@ use crate::GlobalTitle;
 use crate::SuaAddress;
 use bcd::error::Counted;
 use bcd::error::Refusal;
+use parameter::tags::GLOBAL_TITLE;
+use parameter::tags::POINT_CODE;
+use parameter::tags::SUBSYSTEM_NUMBER;
 ghost use mathlib.Core.Path.{_≡_};
 ghost use mathlib.Core.List.{_++_};
 ghost use Prim.Native.Nat.{_≤_};
@@ -95,7 +98,7 @@ fn write_title(there: bool, gt: GlobalTitle, out: &mut [u8]) -> usize
     if there {
         let n = 8 + (gt.count + 1) / 2;
         gt.encode(&mut out[4..]);
-        parameter::frame(parameter::tags::GLOBAL_TITLE, n, out);
+        parameter::frame(GLOBAL_TITLE, n, out);
         return (n + 7) / 4 * 4;
     }
     0
@@ -147,20 +150,8 @@ fn write(
     let ssn = [0, 0, 0, address.ssn];
     write_head(address, out);
     let a = 4 + write_title(address.has_title, gt, &mut out[4..]);
-    let b = a
-        + write_four(
-            address.has_point_code,
-            parameter::tags::POINT_CODE,
-            code,
-            &mut out[a..],
-        );
-    let c = b
-        + write_four(
-            address.has_ssn,
-            parameter::tags::SUBSYSTEM_NUMBER,
-            ssn,
-            &mut out[b..],
-        );
+    let b = a + write_four(address.has_point_code, POINT_CODE, code, &mut out[a..]);
+    let c = b + write_four(address.has_ssn, SUBSYSTEM_NUMBER, ssn, &mut out[b..]);
     parameter::encode_parameters(values, tags, starts, lengths, count, &mut out[c..]);
 }
 

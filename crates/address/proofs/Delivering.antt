@@ -64,6 +64,45 @@ module _ {out p d : List ℕ} (at : ℕ) (b : Begun out p d) (place : length p �
         place = rw (length-append p os) (omega arith);
       }
 
+-- Sub-parameters in four lists behind a head: their length and octets.
+pub parts-length : (ts cs us os : List Param) → runLength (ts ++ (cs ++ (us ++ os))) ≡ runLength ts + runLength cs + runLength us + runLength os
+parts-length ts cs us os =
+    let a = run-length-append ts (cs ++ (us ++ os)) in
+    let b = run-length-append cs (us ++ os) in
+    let c = run-length-append us os in
+    omega arith
+
+abbrev pub partsOctets : List ℕ → (ts cs us : List Param) → List ℕ
+partsOctets head ts cs us = ((head ++ runOctets ts) ++ runOctets cs) ++ runOctets us
+
+module _ (head : List ℕ) (ts cs us os : List Param) where
+  parts-octets : partsOctets head ts cs us ++ runOctets os ≡ head ++ runOctets (ts ++ (cs ++ (us ++ os)))
+  parts-octets =
+      let t = runOctets ts in
+      let c = runOctets cs in
+      let u = runOctets us in
+      let o = runOctets os in
+      append-assoc ((head ++ t) ++ c) u o
+      ∙ append-assoc (head ++ t) c (u ++ o)
+      ∙ append-assoc head t (c ++ (u ++ o))
+      ∙ ap (λ l. head ++ l)
+      (sym (run-octets-append ts (cs ++ (us ++ os))
+      ∙ ap (λ l. t ++ l) (run-octets-append cs (us ++ os) ∙ ap (λ l. c ++ l) (run-octets-append us os))))
+
+  -- The last list behind the rest: all is written.
+  pub parts-done :
+      {out d last : List ℕ} (at total : ℕ)
+      → Begun out (partsOctets head ts cs us) d
+      → length (partsOctets head ts cs us) ≡ at
+      → at + runLength os ≤ length out
+      → last ≡ runOctets os ++ drop (length (runOctets os)) (midOf at (length d - at) d)
+      → length (head ++ runOctets (ts ++ (cs ++ (us ++ os)))) ≡ total
+      → record { answer = accepted total; buffer = putMid at (length d - at) d last } ≡ deliver (accepted (head ++ runOctets (ts ++ (cs ++ (us ++ os))))) out
+  parts-done {out} {d} {last} at total b place room put size =
+      let l = run-length os in
+      let x = extend (runOctets os) last at (length d - at) b place (omega (arith, b .same)) (omega (arith, b .same)) put in
+      delivered total (subst (λ (w : List ℕ). Begun out w (putMid at (length d - at) d last)) parts-octets x) size
+
 -- The sub-parameters of a plan, part by part.
 pub record Pieces (v : List ℕ) (s : Parts) (total : ℕ) (p : Plan v s total) : Type 0 where
   pub titled : List Param
@@ -89,42 +128,26 @@ module _ {v : List ℕ} {s : Parts} {total : ℕ} (p : Plan v s total) where
   pub planned-length : 4 + runLength (planned-pieces p .titled) + runLength codes + runLength subs + runLength others ≡ total
   planned-length =
       let q = planned-pieces p in
-      let a = run-length-append (q .titled) (codes ++ (subs ++ others)) in
-      let b = run-length-append codes (subs ++ others) in
-      let c = run-length-append subs others in
+      let l = parts-length (q .titled) codes subs others in
       omega (arith, ap runLength (q .whole), p .size)
 
   pub planned-others : s .«other_length» ≡ runLength others
   planned-others = others-sum (p .read .known)
 
-  planned-octets : (((headOctets v ++ runOctets (planned-pieces p .titled)) ++ runOctets codes) ++ runOctets subs) ++ runOctets others ≡ wireOf v (p .params)
-  planned-octets =
-      let q = planned-pieces p in
-      let t = runOctets (q .titled) in
-      let c = runOctets codes in
-      let u = runOctets subs in
-      let o = runOctets others in
-      append-assoc ((headOctets v ++ t) ++ c) u o
-      ∙ append-assoc (headOctets v ++ t) c (u ++ o)
-      ∙ append-assoc (headOctets v) t (c ++ (u ++ o))
-      ∙ ap (λ l. headOctets v ++ l)
-      (sym (ap runOctets (sym (q .whole)) ∙ run-octets-append (q .titled) (codes ++ (subs ++ others))
-      ∙ ap (λ l. t ++ l) (run-octets-append codes (subs ++ others) ∙ ap (λ l. c ++ l) (run-octets-append subs others))))
-
-  -- The others behind the rest: all is written.
   pub planned-done :
       (out d last : List ℕ) (at : ℕ)
-      → Begun out (((headOctets v ++ runOctets (planned-pieces p .titled)) ++ runOctets codes) ++ runOctets subs) d
-      → length (((headOctets v ++ runOctets (planned-pieces p .titled)) ++ runOctets codes) ++ runOctets subs) ≡ at
+      → Begun out (partsOctets (headOctets v) (planned-pieces p .titled) codes subs) d
+      → length (partsOctets (headOctets v) (planned-pieces p .titled) codes subs) ≡ at
       → at + runLength others ≤ length out
       → last ≡ othersOctets v ++ drop (length (othersOctets v)) (midOf at (length d - at) d)
       → record { answer = accepted total; buffer = putMid at (length d - at) d last } ≡ deliver (after (readAddress builtIn v) (writeAddress builtIn 0)) out
   planned-done out d last at b place room e =
+      let q = planned-pieces p in
       let o = done-octets v (p .read .known .places) (p .read .known .walked) in
       let put = e ∙ ap (λ l. l ++ drop (length l) (midOf at (length d - at) d)) o in
-      let l = run-length others in
-      let x = extend (runOctets others) last at (length d - at) b place (omega (arith, b .same)) (omega (arith, b .same)) put in
-      delivered total (subst (λ (w : List ℕ). Begun out w (putMid at (length d - at) d last)) planned-octets x) (wire-length v (p .params) ∙ p .size)
+      let same = ap (wireOf v) (q .whole) in
+      parts-done (headOctets v) (q .titled) codes subs others at total b place room put (ap length same ∙ wire-length v (p .params) ∙ p .size)
+      ∙ ap (λ w. deliver (accepted w) out) same
       ∙ ap (λ (o : Outcome (List ℕ)). deliver o out) (sym (plan-octets 0 p))
 
 -- The tag is told only where the value is too long.

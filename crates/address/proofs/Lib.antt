@@ -18,3 +18,5 @@ pub mod Delivering
 pub mod TitleRecords
 pub mod AddressRecords
 pub mod Tabling
+pub mod GivenParts
+pub mod Encoding

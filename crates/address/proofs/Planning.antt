@@ -23,7 +23,7 @@ use Rattle.parameter.proofs.Walking.{places-inside}
 use Rattle.parameter.proofs.Structure.{places-parameters}
 use Rattle.parameter.proofs.RoundTrip.{run-length-append}
 use Rattle.parameter.proofs.Reading.{parameters-room}
-use Rattle.address.specs.Address.{titleOctets, writeTitle, title, code, sub, other, present, subParam}
+use Rattle.address.specs.Address.{Title, Piece, titleOctets, writeTitle, title, code, sub, other, present, subParam}
 use Rattle.address.specs.Records.{flagged}
 use Rattle.address.specs.Parts.{nothing, noted, noteAll, sooner, titleAt, keptTitle, keptCode, keptSub, keptPieces}
 use Rattle.address.specs.Listing.{otherPlaces}
@@ -58,19 +58,22 @@ walked v s o within long routing e =
     record { octets = o; within = within; long = long; routing = routing; places = ps; walked = w; parts = sym p }
 
 -- A title's octets on the wire, by its digits.
+pub title-sized : (t : Title) → mapped runLength (subParam builtIn (title t)) ≡ mapped (λ n. (n + 15) / 4 * 4) (mapped length (writeDigits builtIn (t .digits)))
+unfolding subParam writeTitle runLength
+title-sized t = go (writeDigits builtIn (t .digits))
+  where
+    go :
+        (o : Outcome (List ℕ))
+        → mapped runLength (mapped (λ v. record { tag = 0x8001; value = v } ∷ []) (mapped (titleOctets t) o))
+        ≡ mapped (λ n. (n + 15) / 4 * 4) (mapped length o)
+    go (accepted os) = ap accepted (omega arith)
+    go (refused n vs) = refl
+
 pub title-measured :
     (w : List ℕ)
     → mapped runLength (subParam builtIn (title (titleAt builtIn w)))
     ≡ mapped (λ n. (n + 15) / 4 * 4) (mapped length (writeDigits builtIn (digitsIn builtIn (drop 8 w) (getD w 4 0))))
-unfolding subParam writeTitle runLength
-title-measured w = go (writeDigits builtIn (digitsIn builtIn (drop 8 w) (getD w 4 0)))
-  where
-    go :
-        (o : Outcome (List ℕ))
-        → mapped runLength (mapped (λ v. record { tag = 0x8001; value = v } ∷ []) (mapped (titleOctets (titleAt builtIn w)) o))
-        ≡ mapped (λ n. (n + 15) / 4 * 4) (mapped length o)
-    go (accepted os) = ap accepted (omega arith)
-    go (refused n vs) = refl
+title-measured w = title-sized (titleAt builtIn w)
 
 read-digits : (xs : List ℕ) (count : ℕ) → length xs ≤ most → after (readDigits builtIn xs count) (writeDigits builtIn) ≡ writeDigits builtIn (digitsIn builtIn xs count)
 unfolding readDigits
@@ -96,11 +99,16 @@ digits-small cs n e =
     let g = write-inv builtIn builtIn-lawful cs n e in
     omega (arith, leb-true (length cs) 255 few, g .count)
 
-pub title-small : (w : List ℕ) (n : ℕ) → accepted n ≡ mapped runLength (subParam builtIn (title (titleAt builtIn w))) → n ≤ 140
-title-small w n e =
-    let (k, hk, same) = mapped-inv (λ n. (n + 15) / 4 * 4) (mapped length (writeDigits builtIn (digitsIn builtIn (drop 8 w) (getD w 4 0)))) (sym (e ∙ title-measured w)) in
-    let s = digits-small (digitsIn builtIn (drop 8 w) (getD w 4 0)) k (sym hk) in
+title-small : (t : Title) (n : ℕ) → accepted n ≡ mapped runLength (subParam builtIn (title t)) → n ≤ 140
+title-small t n e =
+    let (k, hk, same) = mapped-inv (λ n. (n + 15) / 4 * 4) (mapped length (writeDigits builtIn (t .digits))) (sym (e ∙ title-sized t)) in
+    let s = digits-small (t .digits) k (sym hk) in
     omega arith
+
+pub flagged-small : (b : Bool) (t : Title) (n : ℕ) → accepted n ≡ mapped runLength (each (subParam builtIn) (present title (flagged b t))) → n ≤ 140
+unfolding runLength
+flagged-small true t n e = title-small t n (e ∙ ap (mapped runLength) (each-one (subParam builtIn) (title t)))
+flagged-small false t n e = let z : n ≡ 0 = accepted-inj e in omega arith
 
 -- A title that is kept, and none.
 pub title-there :
@@ -112,14 +120,7 @@ title-there v k o e h = rw e (h ∙ ap (mapped runLength) (sym (each-one (subPar
 
 pub kept-small :
     (v : List ℕ) (k : Kept) (n : ℕ) → accepted n ≡ mapped runLength (each (subParam builtIn) (present title (keptTitle builtIn v k))) → n ≤ 140
-unfolding runLength
-kept-small v k n e = go (k .there) refl
-  where
-    go : (t : Bool) → k .there ≡ t → n ≤ 140
-    go true h =
-        let one = each-one (subParam builtIn) (title (titleAt builtIn (valued v (k .place) .value))) in
-        title-small (valued v (k .place) .value) n (rw h at e ∙ ap (mapped runLength) one)
-    go false h = let z : n ≡ 0 = accepted-inj (rw h at e) in omega arith
+kept-small v k = flagged-small (k .there) (titleAt builtIn (valued v (k .place) .value))
 
 pub title-absent : (v : List ℕ) (k : Kept) → k .there ≡ false → accepted 0 ≡ mapped runLength (each (subParam builtIn) (present title (keptTitle builtIn v k)))
 unfolding runLength
@@ -232,32 +233,49 @@ each-first-refused {A} {B} f (x ∷ xs) ys n vs e = go (f x) (each f xs) refl e 
     go (accepted us) (refused m ws) q e ih = ap (mapped (λ zs. us ++ zs)) (ih (q ∙ e))
     go (refused m ws) r q e ih = e
 
+-- The sub-parameters that are written behind the title's, of any point code, SSN and others.
+abbrev pub behind : (c s : Option ℕ) → List Param → List Param
+behind c s os = paramOf codeParam c ++ (paramOf subOne s ++ os)
+
+pub behind-length :
+    (b d : Bool) (c s : ℕ) (os : List Param) → runLength (behind (flagged b c) (flagged d s) os) ≡ pick b 8 0 + (pick d 8 0 + runLength os)
+behind-length b d c s os =
+    run-length-append (paramOf codeParam (flagged b c)) _
+    ∙ ap₂ (λ (a b : ℕ). a + b) (four-length codeParam (λ n. refl) b c)
+    (run-length-append (paramOf subOne (flagged d s)) _ ∙ ap (λ (a : ℕ). a + runLength os) (four-length subOne (λ n. refl) d s))
+
+-- The sub-parameters of any title, point code, SSN and others.
+module _ (t : Option Title) (c s : Option ℕ) (os : List Param) where
+  abbrev parts : List Piece
+  parts = present title t ++ (present code c ++ (present sub s ++ map other os))
+
+  pub parts-written : (qs : List Param) → each (subParam builtIn) (present title t) ≡ accepted qs → each (subParam builtIn) parts ≡ accepted (qs ++ behind c s os)
+  parts-written qs e =
+      each-append (subParam builtIn) (present title t) _ qs (behind c s os) e
+      (each-append (subParam builtIn) (present code c) _ _ _ (code-params c)
+      (each-append (subParam builtIn) (present sub s) _ _ _ (sub-params s) (other-params os)))
+
+  pub parts-refused : (n : ℕ) (vs : List ℕ) → each (subParam builtIn) (present title t) ≡ refused n vs → each (subParam builtIn) parts ≡ refused n vs
+  parts-refused n vs e = each-first-refused (subParam builtIn) (present title t) _ n vs e
+
 module _ (v : List ℕ) (s : Parts) (ps : List Place) where
-  -- the sub-parameters that are written behind the title's
   abbrev pub rest : List Param
-  rest = paramOf codeParam (keptCode v (s .code)) ++ (paramOf subOne (keptSub v (s .ssn)) ++ map (valued v) (otherPlaces ps))
+  rest = behind (keptCode v (s .code)) (keptSub v (s .ssn)) (map (valued v) (otherPlaces ps))
 
   pub rest-length :
       runLength rest ≡ pick (s .code .there) 8 0 + (pick (s .ssn .there) 8 0 + runLength (map (valued v) (otherPlaces ps)))
-  rest-length =
-      run-length-append (paramOf codeParam (keptCode v (s .code))) _
-      ∙ ap₂ (λ (a b : ℕ). a + b) (four-length codeParam (λ n. refl) (s .code .there) _)
-      (run-length-append (paramOf subOne (keptSub v (s .ssn))) _
-      ∙ ap (λ (a : ℕ). a + runLength (map (valued v) (otherPlaces ps))) (four-length subOne (λ n. refl) (s .ssn .there) _))
+  rest-length = behind-length (s .code .there) (s .ssn .there) _ _ (map (valued v) (otherPlaces ps))
 
   pub kept-written :
       (qs : List Param)
       → each (subParam builtIn) (present title (keptTitle builtIn v (s .title))) ≡ accepted qs
       → each (subParam builtIn) (keptPieces builtIn v s ps) ≡ accepted (qs ++ rest)
   unfolding keptPieces
-  kept-written qs e =
-      each-append (subParam builtIn) (present title (keptTitle builtIn v (s .title))) _ qs rest e
-      (each-append (subParam builtIn) (present code (keptCode v (s .code))) _ _ _ (code-params (keptCode v (s .code)))
-      (each-append (subParam builtIn) (present sub (keptSub v (s .ssn))) _ _ _ (sub-params (keptSub v (s .ssn))) (other-params (map (valued v) (otherPlaces ps)))))
+  kept-written = parts-written (keptTitle builtIn v (s .title)) (keptCode v (s .code)) (keptSub v (s .ssn)) (map (valued v) (otherPlaces ps))
 
   pub kept-refused :
       (n : ℕ) (vs : List ℕ)
       → each (subParam builtIn) (present title (keptTitle builtIn v (s .title))) ≡ refused n vs
       → each (subParam builtIn) (keptPieces builtIn v s ps) ≡ refused n vs
   unfolding keptPieces
-  kept-refused n vs e = each-first-refused (subParam builtIn) (present title (keptTitle builtIn v (s .title))) _ n vs e
+  kept-refused = parts-refused (keptTitle builtIn v (s .title)) (keptCode v (s .code)) (keptSub v (s .ssn)) (map (valued v) (otherPlaces ps))

@@ -73,11 +73,11 @@ fn title_length(value: &[u8], kept: Kept) -> Counted
     Counted::Count(0)
 }
 
-// What a point code or an SSN takes on the wire.
-fn four_length(kept: Kept) -> usize
-    ensures { λ r. ⌜ r ≡ pick (kept .there) 8 0 ⌝ }
+// What a point code or an SSN takes on the wire, if it is there.
+pub(crate) fn four_length(there: bool) -> usize
+    ensures { λ r. ⌜ r ≡ pick there 8 0 ⌝ }
 {
-    if kept.there { 8 } else { 0 }
+    if there { 8 } else { 0 }
 }
 
 // The length of what is written, of an address value that was read. 9, then 10.
@@ -91,7 +91,11 @@ fn measure(tag: u16, value: &[u8], parts: Parts) -> Planned
         Counted::Count(n) => {
             let code = parts.code;
             let ssn = parts.ssn;
-            let length = 4 + n + four_length(code) + four_length(ssn) + parts.other_length;
+            let length = 4
+                + n
+                + four_length(code.there)
+                + four_length(ssn.there)
+                + parts.other_length;
             if 65531 < length {
                 return Planned::Refused(Refusal::ValueTooLong { tag, length });
             }

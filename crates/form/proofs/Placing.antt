@@ -1,19 +1,19 @@
 -- How far the second pass has come: the parameters written, and the octets in front of the buffer.
 use Prim.Native.Nat.{ℕ, _+_, _-_, _*_, _/_, _≤_}
-use mathlib.Core.Path.{_≡_, refl, sym, ap, _∙_}
+use mathlib.Core.Path.{_≡_, sym, ap, _∙_}
 use mathlib.Core.Bool.{true, false}
-use mathlib.Core.List.{List, [], _∷_, _++_, append-assoc}
+use mathlib.Core.List.{List, [], _∷_, _++_}
 use native.Mathlib.Omega.{arith}
-use lib.ListN.{length, take, drop, length-append, length-take, length-drop, take-append-drop}
-use lib.Seq.{take-at, drop-at, drop-append-add, drop-drop, length-take-le}
+use lib.ListN.{length, drop, length-take, length-drop}
 use borrow.Rule.Slice.PartMut.{midOf, putMid}
 use Rattle.bcd.specs.Outcome.{Outcome, accepted, after, mapped, deliver}
 use Rattle.bcd.specs.Digits.{builtIn}
 use Rattle.bcd.proofs.Outcomes.{accepted-inj, mapped-inv, deliver-buffer, deliver-answer}
-use Rattle.bcd.proofs.Writing.{Begun, begin, extend, delivered}
+use Rattle.bcd.proofs.Writing.{begin, delivered}
 use Rattle.parameter.specs.Parameter.{Param, paddedLength, mostValue, paramOctets, runOctets, runLength, frameParam, encodeParam}
 use Rattle.parameter.proofs.RoundTrip.{octets-length}
-use Rattle.parameter.proofs.Encoding.{frame-known, encode-within}
+use Rattle.parameter.proofs.Encoding.{encode-within}
+use Rattle.parameter.proofs.InPlace.{framed-there}
 use Rattle.address.specs.Address.{readAddress, writeAddress, rewriteAddress}
 use Rattle.form.specs.Form.{isAddress, settledParam}
 use Rattle.form.specs.Passes.{Placeable}
@@ -35,42 +35,6 @@ raw-placed tag v out d r t h e room k =
     let b = begin out (paramOctets p) d (omega arith) (deliver-buffer (paramOctets p) out (omega arith) (k ∙ ap (λ o. deliver o out) (encode-within p h))) in
     delivered r b (omega arith) ∙ ap (λ o. deliver o out) (sym (encode-within p h) ∙ whole)
 
--- The octets of w stand at the fifth octet of a buffer that was lent from there on.
-module _ (out w last : List ℕ) (room : 4 + length w ≤ length out) (e : last ≡ w ++ drop (length w) (midOf 4 (length out - 4) out)) where
-  abbrev lent : List ℕ
-  lent = putMid 4 (length out - 4) out last
-
-  begun : Begun out (take 4 out ++ w) lent
-  begun =
-      let l = length-take-le 4 out (omega arith) in
-      let b = begin out (take 4 out) out (omega arith) (sym (take-append-drop 4 out) ∙ ap (λ (k : ℕ). take 4 out ++ drop k out) (sym l)) in
-      extend w last 4 (length out - 4) b l (omega arith) (omega arith) e
-
-  lent-prefix : length (take 4 out ++ w) ≡ 4 + length w
-  lent-prefix = rw (length-append (take 4 out) w, length-take-le 4 out (omega arith))
-
-  pub lent-value : take (length w) (drop 4 lent) ≡ w
-  lent-value =
-      let l = length-take-le 4 out (omega arith) in
-      let rest = drop (length (take 4 out ++ w)) out in
-      ap (λ (d : List ℕ). take (length w) (drop 4 d)) (begun .holds ∙ append-assoc (take 4 out) w rest)
-      ∙ ap (take (length w)) (drop-at (take 4 out) (w ++ rest) 4 l)
-      ∙ take-at w rest (length w) refl
-
-  pub lent-beyond : (k : ℕ) → 4 + length w ≤ k → drop k lent ≡ drop k out
-  lent-beyond k h =
-      let p = take 4 out ++ w in
-      let lp = lent-prefix in
-      let sum : k ≡ length p + (k - length p) = omega arith in
-      ap (drop k) (begun .holds)
-      ∙ ap (λ (i : ℕ). drop i (p ++ drop (length p) out)) sum
-      ∙ drop-append-add p (drop (length p) out) (k - length p)
-      ∙ drop-drop (k - length p) (length p) out
-      ∙ ap (λ (i : ℕ). drop i out) (sym sum)
-
-  pub lent-length : length lent ≡ length out
-  lent-length = begun .same
-
 -- An address is written again at the fifth octet, and framed.
 pub address-placed :
     (tag : ℕ) (v w out last d : List ℕ) (r : ℕ) {a : Outcome ℕ}
@@ -84,17 +48,10 @@ pub address-placed :
 address-placed tag v w out last d r t hw e room le k =
     let small = rewrite-small tag v w hw in
     let q : Param = record { tag = tag; value = w } in
-    let lent = putMid 4 (length out - 4) out last in
-    let at4 : 4 + length w ≤ length out = omega arith in
-    let ll = lent-length out w last at4 le in
-    let frame : frameParam tag (length w) lent ≡ accepted (paramOctets q) =
-    frame-known tag (length w) lent small (omega arith) ∙ ap (λ (x : List ℕ). accepted (paramOctets (record { tag = tag; value = x }))) (lent-value out w last at4 le) in
     let l = octets-length q in
-    let held : d ≡ paramOctets q ++ drop (length (paramOctets q)) lent = deliver-buffer (paramOctets q) lent (omega arith) (k ∙ ap (λ o. deliver o lent) frame) in
-    let b = begin out (paramOctets q) d (omega arith) (held ∙ ap (λ (x : List ℕ). paramOctets q ++ x) (lent-beyond out w last at4 le (length (paramOctets q)) (omega arith))) in
     let whole : accepted (paramOctets q) ≡ mapped runOctets (settledParam builtIn (record { tag = tag; value = v })) =
     ap accepted (sym (one-octets q)) ∙ sym (ap (mapped runOctets) (settled-address tag v t ∙ ap (mapped (λ w. record { tag = tag; value = w } ∷ [])) hw)) in
-    delivered r b (omega arith) ∙ ap (λ o. deliver o out) whole
+    delivered r (framed-there tag w out last d small room le k) (omega arith) ∙ ap (λ o. deliver o out) whole
 
 -- What is known of a parameter that can be placed
 pub placeable-address : (tag : ℕ) (v : List ℕ) (room : ℕ) → isAddress tag ≡ true → Placeable (record { tag = tag; value = v }) room → (w : List ℕ) × (rewriteAddress builtIn tag v ≡ accepted w) × (paddedLength (length w) ≤ room)

@@ -9,3 +9,4 @@ pub mod Reaching
 pub mod Filling
 pub mod Records
 pub mod Running
+pub mod InPlace

@@ -348,8 +348,14 @@ pub fn saturating_add(a: usize, b: usize) -> usize
     }
 }
 
-// Whether the count, or a record, reaches outside its lent slice.
-fn outside(values: &[u8], tags: &[u16], starts: &[usize], lengths: &[usize], count: usize) -> bool
+// Whether the count, or a record, reaches outside its lent slice: 15.
+pub fn outside(
+    values: &[u8],
+    tags: &[u16],
+    starts: &[usize],
+    lengths: &[usize],
+    count: usize,
+) -> bool
     ensures { λ r. ⌜ records (now (values .entry)) (record { tags = now (tags .entry); starts = now (starts .entry); lengths = now (lengths .entry) }) count ≡ pick r (refused 15 []) (accepted (map (valued (now (values .entry))) (take count (rows (now (tags .entry)) (now (starts .entry)) (now (lengths .entry)))))) ⌝ }
 {
     if tags.len() < count {

@@ -1,0 +1,259 @@
+-- An address that is given by its record: when it is refused, its length, and its octets.
+use Prim.Native.Nat.{ℕ, _+_, _-_, _≤_, _<_}
+use mathlib.Core.Path.{_≡_, refl, sym, ap, _∙_}
+use mathlib.Core.Bool.{Bool, true, false}
+use mathlib.Core.List.{List, [], _∷_, _++_, append-assoc}
+use native.Mathlib.Omega.{arith}
+use borrow.Author.Tests.{le-leb, lt-leb, leb-true}
+use borrow.Rule.Slice.PartMut.{midOf, putMid}
+use lib.Dec.{leb}
+use lib.ListN.{length, length-append}
+use Rattle.bcd.specs.Outcome.{Outcome, accepted, refused, pick, after, mapped, each, All, fit64, deliver}
+use Rattle.bcd.specs.Digits.{builtIn}
+use Rattle.bcd.proofs.Outcomes.{accepted-inj, never, after-inv, mapped-inv, demand-inv, each-inv, each-append, deliver-buffer}
+use Rattle.bcd.proofs.Writing.{Begun}
+use Rattle.parameter.specs.Parameter.{Param, four, runOctets, runLength, mostValue, encodeParam, encodeParams}
+use Rattle.parameter.specs.Table.{Table, records}
+use Rattle.parameter.proofs.RoundTrip.{run-length, run-length-append, Sized, encode-accepts, encode-inv, encodeParams-accepts}
+use Rattle.address.specs.Address.{indicator, pieces, sized, writeAddress}
+use Rattle.address.specs.Records.{flagged, titleOf, addressOf}
+use Rattle.address.specs.Given.{encodeAddress}
+use Rattle.address.specs.GivenParts.{givenTitle, givenParam, givenHead}
+use Rattle.address.specs.declared.SuaAddress.{SuaAddress}
+use Rattle.address.proofs.Planning.{mapped-refused, paramOf, codeParam, subOne, four-length, parts-written, parts-refused}
+use Rattle.address.proofs.Copying.{lent-length}
+use Rattle.address.proofs.Delivering.{partsOctets, parts-length, parts-done}
+use Rattle.address.proofs.GivenParts.{title-accepts, title-refuses, title-small}
+
+-- Elements behind those that were accepted.
+each-last-refused :
+    {A B : Type 0} (f : A → Outcome (List B)) (xs ys : List A) (us : List B) (n : ℕ) (vs : List ℕ)
+    → each f xs ≡ accepted us
+    → each f ys ≡ refused n vs
+    → each f (xs ++ ys) ≡ refused n vs
+each-last-refused f [] ys us n vs e h = h
+each-last-refused f (x ∷ xs) ys us n vs e h =
+    let (s, t, hs, ht, j) = each-inv f x xs us e in
+    rw (hs, each-last-refused f xs ys t n vs ht h)
+
+each-behind :
+    {A B : Type 0} (f : A → Outcome (List B)) (xs ys : List A) (us : List B)
+    → each f xs ≡ accepted us
+    → each f (xs ++ ys) ≡ mapped (λ vs. us ++ vs) (each f ys)
+each-behind {A} {B} f xs ys us e = go (each f ys) refl
+  where
+    go : (o : Outcome (List B)) → each f ys ≡ o → each f (xs ++ ys) ≡ mapped (λ vs. us ++ vs) o
+    go (accepted vs) h = each-append f xs ys us vs e h
+    go (refused n vs) h = each-last-refused f xs ys us n vs e h
+
+-- Where a run is short, no value in it is too long.
+run-sized : (qs : List Param) → runLength qs ≤ mostValue → All Sized qs
+unfolding runLength
+run-sized [] h = tt
+run-sized (q ∷ qs) h = (omega arith, run-sized qs (omega arith))
+
+-- The sub-parameters of the point code and the SSN.
+abbrev pub codesOf : SuaAddress → List Param
+codesOf a = paramOf codeParam (flagged (a .«has_point_code») (a .«point_code»))
+
+abbrev pub subsOf : SuaAddress → List Param
+subsOf a = paramOf subOne (flagged (a .«has_ssn») (a .ssn))
+
+-- In front of the others, and with them.
+abbrev frontOf : SuaAddress → List Param → List Param
+frontOf a ts = ts ++ (codesOf a ++ subsOf a)
+
+abbrev pub wholeOf : SuaAddress → (titled others : List Param) → List Param
+wholeOf a ts os = ts ++ (codesOf a ++ (subsOf a ++ os))
+
+front-whole : (a : SuaAddress) (ts os : List Param) → wholeOf a ts os ≡ frontOf a ts ++ os
+front-whole a ts os = ap (λ l. ts ++ l) (sym (append-assoc (codesOf a) (subsOf a) os)) ∙ sym (append-assoc ts (codesOf a ++ subsOf a) os)
+
+front-length : (a : SuaAddress) (ts : List Param) → runLength (frontOf a ts) ≡ runLength ts + pick (a .«has_point_code») 8 0 + pick (a .«has_ssn») 8 0
+front-length a ts =
+    let x = run-length-append ts (codesOf a ++ subsOf a) in
+    let y = run-length-append (codesOf a) (subsOf a) in
+    let c = four-length codeParam (λ n. refl) (a .«has_point_code») (a .«point_code») in
+    let s = four-length subOne (λ n. refl) (a .«has_ssn») (a .ssn) in
+    omega arith
+
+pub given-one : (f : ℕ → Param) (b : Bool) (n : ℕ) → givenParam b (f n) ≡ paramOf f (flagged b n)
+given-one f true n = refl
+given-one f false n = refl
+
+pub code-known : (b : Bool) (n : ℕ) (value : List ℕ) → value ≡ four n → givenParam b (record { tag = 0x8002; value = value }) ≡ paramOf codeParam (flagged b n)
+code-known b n value e = ap (λ (v : List ℕ). givenParam b (record { tag = 0x8002; value = v })) e ∙ given-one codeParam b n
+
+pub eight : (b : Bool) → pick b 8 0 ≤ 8
+eight true = omega arith
+eight false = omega arith
+
+module _ (a : SuaAddress) (values : List ℕ) (t : Table) where
+  abbrev listed : Outcome (List Param)
+  listed = records values t (a .«other_count»)
+
+  abbrev titled : Outcome (List Param)
+  titled = givenTitle (a .«has_title») (a .«global_title»)
+
+  -- A record that reaches outside.
+  pub given-outside : (n : ℕ) (vs : List ℕ) → listed ≡ refused n vs → encodeAddress a values t ≡ refused n vs
+  unfolding encodeAddress
+  given-outside n vs e = rw e
+
+  module _ (os : List Param) (known : listed ≡ accepted os) where
+    -- A title that is refused.
+    pub given-untitled : (n : ℕ) (vs : List ℕ) → titled ≡ refused n vs → encodeAddress a values t ≡ refused n vs
+    unfolding encodeAddress writeAddress pieces
+    given-untitled n vs e =
+        rw known
+        (title-refuses (addressOf a os) (writeAddress builtIn 0) (a .«has_title») (a .«global_title») n vs e
+        (λ h. rw (parts-refused (flagged (a .«has_title») (titleOf (a .«global_title»))) (flagged (a .«has_point_code») (a .«point_code»)) (flagged (a .«has_ssn») (a .ssn)) os n vs h)))
+
+    module _ (ts : List Param) (e : titled ≡ accepted ts) where
+      front-small : runLength (frontOf a ts) ≤ 156
+      front-small =
+          let c = eight (a .«has_point_code») in
+          let s = eight (a .«has_ssn») in
+          omega (arith, front-length a ts, title-small (a .«has_title») (a .«global_title») (runLength ts) (sym (ap (mapped runLength) e)))
+
+      given-pieces : encodeAddress a values t ≡ after (each encodeParam (wholeOf a ts os)) (λ w. sized 0 (givenHead a ++ w))
+      unfolding encodeAddress writeAddress pieces indicator
+      given-pieces =
+          let (goes, one) = title-accepts (addressOf a os) (a .«has_title») (a .«global_title») ts e in
+          rw (known, goes, parts-written (flagged (a .«has_title») (titleOf (a .«global_title»))) (flagged (a .«has_point_code») (a .«point_code»)) (flagged (a .«has_ssn») (a .ssn)) os ts one)
+
+      pieces-runs : each encodeParam (wholeOf a ts os) ≡ mapped (λ w. runOctets (frontOf a ts) ++ w) (each encodeParam os)
+      pieces-runs =
+          let small = encode-accepts (frontOf a ts) (run-sized (frontOf a ts) (omega (arith, front-small))) in
+          ap (each encodeParam) (front-whole a ts os) ∙ each-behind encodeParam (frontOf a ts) os (runOctets (frontOf a ts)) small
+
+      given-runs : encodeAddress a values t ≡ after (mapped (λ w. runOctets (frontOf a ts) ++ w) (each encodeParam os)) (λ w. sized 0 (givenHead a ++ w))
+      given-runs = given-pieces ∙ ap (λ (o : Outcome (List ℕ)). after o (λ w. sized 0 (givenHead a ++ w))) pieces-runs
+
+  -- The others, measured.
+  module _ (os : List Param) (known : listed ≡ accepted os) (k : ℕ) (there : accepted k ≡ mapped runLength titled) where
+    encoded-others : after listed (each encodeParam) ≡ each encodeParam os
+    encoded-others = ap (λ (o : Outcome (List Param)). after o (each encodeParam)) known
+
+    -- One of them is too long.
+    pub given-refused : (n : ℕ) (vs : List ℕ) → refused n vs ≡ mapped (λ (w : List ℕ). fit64 (length w)) (after listed (each encodeParam)) → encodeAddress a values t ≡ refused n vs
+    given-refused n vs e =
+        let (ts, ht, l) = mapped-inv runLength titled (sym there) in
+        let r : each encodeParam os ≡ refused n vs = mapped-refused (λ (w : List ℕ). fit64 (length w)) (each encodeParam os) (e ∙ ap (mapped (λ (w : List ℕ). fit64 (length w))) encoded-others) in
+        given-runs os known ts ht ∙ rw r
+
+    module _ (m total : ℕ) (measured : accepted m ≡ mapped (λ (w : List ℕ). fit64 (length w)) (after listed (each encodeParam)))
+        (sum : total ≡ fit64 (4 + k + pick (a .«has_point_code») 8 0 + pick (a .«has_ssn») 8 0 + m)) where
+      record Summed : Type 0 where
+        octets : List ℕ
+        size : total ≡ fit64 (length octets)
+        made : encodeAddress a values t ≡ sized 0 octets
+
+      summed : Summed
+      summed =
+          let (ts, ht, l) = mapped-inv runLength titled (sym there) in
+          let (w, hw, f) = mapped-inv (λ (w : List ℕ). fit64 (length w)) (each encodeParam os) (sym (measured ∙ ap (mapped (λ (w : List ℕ). fit64 (length w))) encoded-others)) in
+          let u = runOctets (frontOf a ts) in
+          let x = length-append u w in
+          record {
+            octets = givenHead a ++ (u ++ w);
+            size = omega (arith, run-length (frontOf a ts), front-length a ts);
+            made = given-runs os known ts ht ∙ ap (λ (o : Outcome (List ℕ)). after (mapped (λ w. u ++ w) o) (λ w. sized 0 (givenHead a ++ w))) hw;
+          }
+
+      -- The whole is too long.
+      pub given-long : mostValue < total → encodeAddress a values t ≡ refused 10 (0 ∷ total ∷ [])
+      given-long h =
+          let s = summed in
+          s .made ∙ rw (lt-leb (length (s .octets)) mostValue (omega (arith, s .size)), sym (s .size))
+
+      pub given-counted : total ≤ mostValue → accepted total ≡ mapped length (encodeAddress a values t)
+      given-counted h =
+          let s = summed in
+          let l : total ≡ length (s .octets) = omega (arith, s .size) in
+          let within : sized 0 (s .octets) ≡ accepted (s .octets) = rw (le-leb (length (s .octets)) mostValue (omega (arith, s .size))) in
+          ap accepted l ∙ sym (ap (mapped length) (s .made ∙ within))
+
+-- An address that is written, as so many octets.
+pub record Known (a : SuaAddress) (values : List ℕ) (t : Table) (total : ℕ) : Type 0 where
+  pub others : List Param
+  pub titled : List Param
+  pub title : givenTitle (a .«has_title») (a .«global_title») ≡ accepted titled
+  pub encoded : after (records values t (a .«other_count»)) encodeParams ≡ accepted (runOctets others)
+  pub octets : encodeAddress a values t ≡ accepted (givenHead a ++ runOctets (wholeOf a titled others))
+  pub size : 4 + runLength titled + runLength (codesOf a) + runLength (subsOf a) + runLength others ≡ total
+  pub fits : total ≤ mostValue
+
+module _ (a : SuaAddress) (values : List ℕ) (t : Table) (total : ℕ) (e : accepted total ≡ mapped length (encodeAddress a values t)) where
+  known-titled :
+      (w : List ℕ)
+      → encodeAddress a values t ≡ accepted w
+      → length w ≡ total
+      → (os : List Param) (inside : records values t (a .«other_count») ≡ accepted os) (ts : List Param)
+      → givenTitle (a .«has_title») (a .«global_title») ≡ accepted ts
+      → Known a values t total
+  known-titled w hw l os inside ts title =
+      let (x, hx, rest) = after-inv (each encodeParam (wholeOf a ts os)) _ (sym (given-pieces a values t os inside ts title) ∙ hw) in
+      let (y, hy, j) = mapped-inv (λ w. runOctets (frontOf a ts) ++ w) (each encodeParam os) (sym (pieces-runs a values t os inside ts title) ∙ hx) in
+      let (small, same) = demand-inv (leb (length (givenHead a ++ x)) mostValue) _ _ _ rest in
+      let all = encode-inv (wholeOf a ts os) x hx in
+      let sizes = encode-inv os y hy .sizes in
+      let octets : givenHead a ++ runOctets (wholeOf a ts os) ≡ w = ap (λ l. givenHead a ++ l) (all .run) ∙ accepted-inj same in
+      let sum = parts-length ts (codesOf a) (subsOf a) os in
+      let size : 4 + runLength (wholeOf a ts os) ≡ total = omega (arith, run-length (wholeOf a ts os), ap length octets) in
+      let fits : total ≤ mostValue = omega (arith, leb-true (length (givenHead a ++ x)) mostValue small, ap length (accepted-inj same)) in
+      record {
+        others = os;
+        titled = ts;
+        title = title;
+        encoded = ap (λ (o : Outcome (List Param)). after o encodeParams) inside ∙ encodeParams-accepts os sizes (omega arith);
+        octets = hw ∙ ap accepted (sym octets);
+        size = omega arith;
+        fits = fits;
+      }
+
+  pub given-known : Known a values t total
+  unfolding encodeAddress
+  given-known =
+      let (w, hw, l) = mapped-inv length (encodeAddress a values t) (sym e) in
+      let (os, inside, rest) = after-inv (records values t (a .«other_count»)) _ hw in
+      go w hw l os inside (givenTitle (a .«has_title») (a .«global_title»)) refl
+    where
+      go :
+          (w : List ℕ)
+          → encodeAddress a values t ≡ accepted w
+          → length w ≡ total
+          → (os : List Param)
+          → records values t (a .«other_count») ≡ accepted os
+          → (o : Outcome (List Param))
+          → givenTitle (a .«has_title») (a .«global_title») ≡ o
+          → Known a values t total
+      go w hw l os inside (accepted ts) h = known-titled w hw l os inside ts h
+      go w hw l os inside (refused n vs) h = absurd (never (sym (given-untitled a values t os inside n vs h) ∙ hw))
+
+-- Room for a sub-parameter of four octets behind what was written.
+pub four-behind :
+    (f : ℕ → Param)
+    → ((n : ℕ) → length (f n .value) ≡ 4)
+    → (b : Bool) (n : ℕ) {out p d : List ℕ} (at : ℕ)
+    → Begun out p d
+    → at + runLength (paramOf f (flagged b n)) ≤ length out
+    → pick b 8 0 ≤ length (midOf at (length d - at) d)
+four-behind f h b n {out} {p} {d} at w room = omega (arith, four-length f h b n, lent-length d at, w .same)
+
+-- The others behind the rest: all is written.
+pub given-done :
+    {a : SuaAddress} {values : List ℕ} {t : Table} {total : ℕ} (k : Known a values t total) {out d last : List ℕ} {p : Outcome ℕ} (at : ℕ)
+    → Begun out (partsOctets (givenHead a) (k .titled) (codesOf a) (subsOf a)) d
+    → length (partsOctets (givenHead a) (k .titled) (codesOf a) (subsOf a)) ≡ at
+    → at + runLength (k .others) ≤ length out
+    → record { answer = p; buffer = last } ≡ deliver (after (records values t (a .«other_count»)) encodeParams) (midOf at (length d - at) d)
+    → record { answer = accepted total; buffer = putMid at (length d - at) d last } ≡ deliver (encodeAddress a values t) out
+given-done {a} {values} {t} {total} k {out} {d} {last} at b place room e =
+    let lent = midOf at (length d - at) d in
+    let fit : length (runOctets (k .others)) ≤ length lent = omega (arith, run-length (k .others), lent-length d at, b .same) in
+    let put = deliver-buffer (runOctets (k .others)) lent fit (e ∙ ap (λ (o : Outcome (List ℕ)). deliver o lent) (k .encoded)) in
+    let whole = wholeOf a (k .titled) (k .others) in
+    let size : length (givenHead a ++ runOctets whole) ≡ total = omega (arith, run-length whole, parts-length (k .titled) (codesOf a) (subsOf a) (k .others), k .size) in
+    parts-done (givenHead a) (k .titled) (codesOf a) (subsOf a) (k .others) at total b place room put size
+    ∙ ap (λ (o : Outcome (List ℕ)). deliver o out) (sym (k .octets))

@@ -1,0 +1,176 @@
+// Addresses written from their records (address.rs; RFC 3868, 3.10.2).
+use crate::GlobalTitle;
+use crate::SuaAddress;
+use crate::interpret::four_length;
+use bcd::error::Counted;
+use bcd::error::Refusal;
+use parameter::tags::GLOBAL_TITLE;
+use parameter::tags::POINT_CODE;
+use parameter::tags::SUBSYSTEM_NUMBER;
+ghost use mathlib.Core.Path.{_≡_};
+ghost use mathlib.Core.List.{_++_};
+ghost use Prim.Native.Nat.{_≤_};
+ghost use lib.ListN.{length, drop};
+ghost use Rattle.bcd.specs.Outcome.{accepted, pick, mapped, deliver};
+ghost use Rattle.bcd.specs.Answers.{countedOf};
+ghost use Rattle.parameter.specs.Parameter.{four, runOctets, runLength};
+ghost use Rattle.address.specs.Plan.{Ready};
+ghost use Rattle.address.specs.Given.{encodeAddress};
+ghost use Rattle.address.specs.GivenParts.{givenTitle, givenParam, givenHead};
+
+// What the title takes on the wire, if it is there. 11, 9.
+fn title_length(there: bool, gt: GlobalTitle) -> Counted
+    ensures { λ r. ⌜ countedOf r ≡ mapped runLength (givenTitle there gt) ⌝ }
+{
+    if there {
+        let count = gt.count;
+        if 255 < count {
+            return Counted::Refused(Refusal::TooManyDigits(count));
+        }
+        let digits = gt.digits;
+        return match bcd::gt_digits_length(&digits[..count]) {
+            Counted::Count(n) => Counted::Count((n + 15) / 4 * 4),
+            Counted::Refused(r) => Counted::Refused(r),
+        };
+    }
+    Counted::Count(0)
+}
+
+// How many octets an address value has. 15, 11, 9, 10 for each other, 10 for the whole (tag 0).
+fn encoded_length(
+    address: SuaAddress,
+    values: &[u8],
+    tags: &[u16],
+    starts: &[usize],
+    lengths: &[usize],
+) -> Counted
+    ensures { λ r. ⌜ countedOf r ≡ mapped length (encodeAddress address (now (values .entry)) (record { tags = now (tags .entry); starts = now (starts .entry); lengths = now (lengths .entry) })) ⌝ }
+{
+    let count = address.other_count;
+    if parameter::outside(values, tags, starts, lengths, count) {
+        return Counted::Refused(Refusal::OutsideSlice);
+    }
+    let gt = address.global_title;
+    match title_length(address.has_title, gt) {
+        Counted::Refused(r) => Counted::Refused(r),
+        Counted::Count(title) => {
+            match parameter::parameters_length(values, tags, starts, lengths, count) {
+                Counted::Refused(s) => Counted::Refused(s),
+                Counted::Count(others) => {
+                    let code = four_length(address.has_point_code);
+                    let ssn = four_length(address.has_ssn);
+                    let length = parameter::saturating_add(4 + title + code + ssn, others);
+                    if 65531 < length {
+                        return Counted::Refused(Refusal::ValueTooLong { tag: 0, length });
+                    }
+                    Counted::Count(length)
+                }
+            }
+        }
+    }
+}
+
+// Writes the routing indicator and the address indicator.
+fn write_head(address: SuaAddress, out: &mut [u8])
+    requires { ⌜ 4 ≤ length (now out) ⌝ }
+    ensures { λ _. ⌜ now (out .exit) ≡ givenHead address ++ drop 4 (now (out .entry)) ⌝ }
+{
+    let routing_indicator = address.routing_indicator;
+    let routing = routing_indicator.value();
+    let indicator = address.address_indicator();
+    out[0] = (routing / 256) as u8;
+    out[1] = (routing % 256) as u8;
+    out[2] = (indicator / 256) as u8;
+    out[3] = (indicator % 256) as u8;
+}
+
+// Writes the title, if it is there: its value in place, and tag, length and padding round it.
+fn write_title(there: bool, gt: GlobalTitle, out: &mut [u8]) -> usize
+    requires { ⌜ Ready (givenTitle there gt) (now out) ⌝ }
+    ensures { λ r. ⌜ record { answer = accepted r; buffer = now (out .exit) } ≡ deliver (mapped runOctets (givenTitle there gt)) (now (out .entry)) ⌝ }
+{
+    if there {
+        let n = 8 + (gt.count + 1) / 2;
+        gt.encode(&mut out[4..]);
+        parameter::frame(GLOBAL_TITLE, n, out);
+        return (n + 7) / 4 * 4;
+    }
+    0
+}
+
+// A 32-bit number, the high octet first.
+fn four_octets(n: u32) -> [u8; 4]
+    ensures { λ r. ⌜ r ≡ four n ⌝ }
+{
+    let high = n / 65536;
+    let low = n % 65536;
+    [
+        (high / 256) as u8,
+        (high % 256) as u8,
+        (low / 256) as u8,
+        (low % 256) as u8,
+    ]
+}
+
+// Writes a point code or an SSN, if it is there.
+fn write_four(there: bool, tag: u16, value: [u8; 4], out: &mut [u8]) -> usize
+    requires { ⌜ pick there 8 0 ≤ length (now out) ⌝ }
+    ensures { λ r. ⌜ record { answer = accepted r; buffer = now (out .exit) } ≡ deliver (accepted (runOctets (givenParam there (record { tag = tag; value = value })))) (now (out .entry)) ⌝ }
+{
+    if there {
+        parameter::encode(tag, &value, out);
+        return 8;
+    }
+    0
+}
+
+// Writes an address value, which has `total` octets.
+fn write(
+    address: SuaAddress,
+    values: &[u8],
+    tags: &[u16],
+    starts: &[usize],
+    lengths: &[usize],
+    total: usize,
+    out: &mut [u8],
+)
+    requires { ⌜ accepted total ≡ mapped length (encodeAddress address (now values) (record { tags = now tags; starts = now starts; lengths = now lengths })) ⌝ }
+    requires { ⌜ total ≤ length (now out) ⌝ }
+    ensures { λ _. ⌜ record { answer = accepted total; buffer = now (out .exit) } ≡ deliver (encodeAddress address (now (values .entry)) (record { tags = now (tags .entry); starts = now (starts .entry); lengths = now (lengths .entry) })) (now (out .entry)) ⌝ }
+{
+    let gt = address.global_title;
+    let count = address.other_count;
+    let code = four_octets(address.point_code);
+    let ssn = [0, 0, 0, address.ssn];
+    write_head(address, out);
+    let a = 4 + write_title(address.has_title, gt, &mut out[4..]);
+    let b = a + write_four(address.has_point_code, POINT_CODE, code, &mut out[a..]);
+    let c = b + write_four(address.has_ssn, SUBSYSTEM_NUMBER, ssn, &mut out[b..]);
+    parameter::encode_parameters(values, tags, starts, lengths, count, &mut out[c..]);
+}
+
+impl SuaAddress {
+    // Writes an address value; its other sub-parameters are records over a lent slice of values. 15, 11, 9, 10 for each
+    // other, 10 for the whole (tag 0), 14.
+    pub fn encode(
+        self,
+        values: &[u8],
+        tags: &[u16],
+        starts: &[usize],
+        lengths: &[usize],
+        out: &mut [u8],
+    ) -> Counted
+        ensures { λ r. ⌜ record { answer = countedOf r; buffer = now (out .exit) } ≡ deliver (encodeAddress self (now (values .entry)) (record { tags = now (tags .entry); starts = now (starts .entry); lengths = now (lengths .entry) })) (now (out .entry)) ⌝ }
+    {
+        match encoded_length(self, values, tags, starts, lengths) {
+            Counted::Refused(r) => Counted::Refused(r),
+            Counted::Count(total) => {
+                if out.len() < total {
+                    return Counted::Refused(Refusal::OutputTooSmall(total));
+                }
+                write(self, values, tags, starts, lengths, total, out);
+                Counted::Count(total)
+            }
+        }
+    }
+}

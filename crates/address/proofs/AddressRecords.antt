@@ -13,11 +13,11 @@ use Rattle.bcd.proofs.Outcomes.{accepted-inj, never, bounded-within}
 use Rattle.parameter.specs.Parameter.{twoAt, fourIn, numberIn}
 use Rattle.parameter.specs.Walk.{valued}
 use Rattle.parameter.proofs.Running.{part-of}
-use Rattle.address.specs.Address.{Title, titleIn, readTitle, Address, addressWith, bit, routingIn, readAddress}
+use Rattle.address.specs.Address.{titleAt, Title, titleIn, readTitle, Address, addressWith, bit, routingIn, readAddress}
 use Rattle.address.specs.Records.{routingValue, routingOf, flagged, addressOf, titleOf}
 use Rattle.address.specs.Titles.{TitleAnswer, recordOf, noTitle, titleAnswer}
 use Rattle.address.specs.Listing.{otherPlaces, routingNamed, isThere, addressRecord}
-use Rattle.address.specs.Parts.{titleAt, keptTitle, keptCode, keptSub}
+use Rattle.address.specs.Parts.{keptTitle, keptCode, keptSub}
 use Rattle.address.specs.Plan.{HeldIn, Read}
 use Rattle.address.specs.declared.GlobalTitle.{GlobalTitle}
 use Rattle.address.specs.declared.RoutingIndicator.{RoutingIndicator}
@@ -26,7 +26,8 @@ use Rattle.address.specs.declared.Routing.the-variants as R
 use Rattle.address.specs.declared.SuaAddress.{SuaAddress}
 use Rattle.address.specs.declared.parts.Kept.{Kept}
 use Rattle.address.specs.declared.parts.Parts.{Parts}
-use Rattle.address.proofs.Keeping.{value-length, value-at}
+use Rattle.parameter.proofs.Records.{value-length}
+use Rattle.address.proofs.Keeping.{value-at}
 use Rattle.address.proofs.Interpreting.{title-holds, code-holds, sub-holds, others-hold, routing-in}
 use Rattle.address.proofs.Interpreted.{address, read-whole}
 use Rattle.address.proofs.Others.{count-known}

@@ -19,7 +19,7 @@ use Rattle.parameter.proofs.Running.{part-of}
 use Rattle.address.specs.Listing.{isOther, otherPlaces}
 use Rattle.address.specs.Plan.{Walked, othersOctets}
 use Rattle.address.specs.declared.parts.Parts.{Parts}
-use Rattle.address.proofs.Keeping.{value-length}
+use Rattle.parameter.proofs.Records.{value-length}
 use Rattle.address.proofs.Others.{others-append}
 use Rattle.address.proofs.Planning.{others-sum, others-small}
 use Rattle.address.proofs.Putting.{encoded, one-delivered, none-delivered}

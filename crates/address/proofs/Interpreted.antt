@@ -76,6 +76,10 @@ interpreted-read {v} {s} o e =
     let k = walked v s o (leb-true _ _ (p .within)) (p .has .long) (p .has .routing) (sym f) in
     record { known = k; whole = unjudged (address k) a (s .short) (sym (read-known k) ∙ ha) }
 
+pub accepted-read : {v : List ℕ} {a : Address} → Octets v → readAddress builtIn v ≡ accepted a → (s : Parts) × Read v s
+unfolding interpreted
+accepted-read {v} {a} o e = let p = placed v a e in (noteAll nothing (p .places), interpreted-read o (rw (e, p .walked)))
+
 pub interpreted-refused : (v : List ℕ) (n : ℕ) (vs : List ℕ) → refused n vs ≡ interpreted v → readAddress builtIn v ≡ refused n vs
 unfolding interpreted
 interpreted-refused v n vs e = go (readAddress builtIn v) refl

@@ -17,15 +17,16 @@ use Rattle.parameter.specs.Walk.{valued, places, parameters}
 use Rattle.parameter.specs.declared.Place.{Place}
 use Rattle.parameter.proofs.Walking.{places-inside}
 use Rattle.parameter.proofs.Structure.{places-parameters}
-use Rattle.address.specs.Address.{title, code, asTitle, asCode, asSub, last, othersIn, routingIn, addressWith, addressIn, readAddress, pieces}
+use Rattle.address.specs.Address.{titleAt, title, code, asTitle, asCode, asSub, last, othersIn, routingIn, addressWith, addressIn, readAddress, pieces}
 use Rattle.address.specs.Records.{routingOf}
 use Rattle.address.specs.declared.RoutingIndicator.{RoutingIndicator}
 use Rattle.address.specs.declared.Routing.{Routing}
 use Rattle.address.specs.declared.Routing.the-variants as R
-use Rattle.address.specs.Parts.{nothing, notedTitle, notedCode, notedSsn, notedOther, noted, noteAll, judged, titleAt, keptTitle, keptCode, keptSub, keptPieces, keptPlace}
+use Rattle.address.specs.Parts.{nothing, notedTitle, notedCode, notedSsn, notedOther, noted, noteAll, judged, keptTitle, keptCode, keptSub, keptPieces, keptPlace}
 use Rattle.address.specs.Listing.{otherPlaces}
 use Rattle.address.specs.declared.parts.Parts.{Parts}
-use Rattle.address.proofs.Keeping.{kinds, Inside, value-length, pieceBy, pieceAt, pieces-judged, judged-mapped, last-holds}
+use Rattle.parameter.proofs.Records.{value-length}
+use Rattle.address.proofs.Keeping.{kinds, Inside, pieceBy, pieceAt, pieces-judged, judged-mapped, last-holds}
 
 -- the four ways to note a sub-parameter
 abbrev pub by : Bool → Bool → Bool → Parts → Place → Parts

@@ -9,7 +9,7 @@ use mathlib.Core.List.{List, [], _∷_, _++_, map}
 use native.Mathlib.Omega.{arith}
 use borrow.Author.Tests.{le-leb, lt-leb, lt-ltb, le-ltb, ne-eqb, eqb-true}
 use lib.Dec.{eqb}
-use lib.ListN.{length, getD, drop, length-take, length-drop}
+use lib.ListN.{length, getD, drop}
 use lib.Seq.{getD-take, getD-drop}
 use Rattle.bcd.specs.Outcome.{Outcome, accepted, refused, pick, after, mapped, each, All}
 use Rattle.bcd.specs.Digits.{Alphabet}
@@ -17,9 +17,10 @@ use Rattle.bcd.proofs.Outcomes.{le-or-lt}
 use Rattle.parameter.specs.Parameter.{fourIn}
 use Rattle.parameter.specs.Walk.{valued}
 use Rattle.parameter.specs.declared.Place.{Place}
-use Rattle.address.specs.Address.{titleIn, fourOctets, Piece, title, code, sub, other, pieceIn, later, last}
+use Rattle.parameter.proofs.Records.{value-length}
+use Rattle.address.specs.Address.{titleAt, titleIn, fourOctets, Piece, title, code, sub, other, pieceIn, later, last}
 use Rattle.address.specs.Records.{flagged}
-use Rattle.address.specs.Parts.{keptPlace, sooner, notedTitle, notedCode, notedSsn, notedOther, noted, noteAll, shortBy, shortRefusal, judged, titleAt}
+use Rattle.address.specs.Parts.{keptPlace, sooner, notedTitle, notedCode, notedSsn, notedOther, noted, noteAll, shortBy, shortRefusal, judged}
 use Rattle.address.specs.declared.parts.Kept.{Kept}
 use Rattle.address.specs.declared.parts.Parts.{Parts}
 
@@ -79,10 +80,7 @@ module _ (v : List ℕ) where
   abbrev pub Inside : Place → Type 0
   Inside p = p .start + p .length ≤ length v
 
-  pub value-length : (p : Place) → Inside p → length (valued v p .value) ≡ p .length
-  value-length p h = rw (length-take (p .length) (drop (p .start) v), length-drop (p .start) v) (omega arith)
-
-  -- its octets, by their places in the whole
+  -- the octets of a value, by their places in the whole
   pub value-at : (p : Place) (i : ℕ) → i < p .length → getD (valued v p .value) i 0 ≡ getD v (p .start + i) 0
   value-at p i h = getD-take (p .length) (drop (p .start) v) i 0 h ∙ getD-drop (p .start) v i 0
 

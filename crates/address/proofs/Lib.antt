@@ -20,3 +20,4 @@ pub mod AddressRecords
 pub mod Tabling
 pub mod GivenParts
 pub mod Encoding
+pub mod TableBack

@@ -23,9 +23,9 @@ use Rattle.parameter.proofs.Walking.{places-inside}
 use Rattle.parameter.proofs.Structure.{places-parameters}
 use Rattle.parameter.proofs.RoundTrip.{run-length-append}
 use Rattle.parameter.proofs.Reading.{parameters-room}
-use Rattle.address.specs.Address.{Title, Piece, titleOctets, writeTitle, title, code, sub, other, present, subParam}
+use Rattle.address.specs.Address.{titleAt, Title, Piece, titleOctets, writeTitle, title, code, sub, other, present, subParam}
 use Rattle.address.specs.Records.{flagged}
-use Rattle.address.specs.Parts.{nothing, noted, noteAll, sooner, titleAt, keptTitle, keptCode, keptSub, keptPieces}
+use Rattle.address.specs.Parts.{nothing, noted, noteAll, sooner, keptTitle, keptCode, keptSub, keptPieces}
 use Rattle.address.specs.Listing.{otherPlaces}
 use Rattle.address.specs.Plan.{HeldIn, Walked}
 use Rattle.address.specs.declared.parts.Kept.{Kept}

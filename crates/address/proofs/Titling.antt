@@ -12,8 +12,7 @@ use Rattle.bcd.proofs.Outcomes.{mapped-inv}
 use Rattle.bcd.proofs.Reading.{digits-length, digits-most}
 use Rattle.bcd.proofs.Rewriting.{rewritten-octets, octets-even, octets-odd, halves-packed}
 use Rattle.parameter.specs.Parameter.{Param, two, paddedLength, paramOctets, runOctets, runLength, mostValue, encodeParam}
-use Rattle.address.specs.Address.{titleOctets, writeTitle, title, subParam}
-use Rattle.address.specs.Parts.{titleAt}
+use Rattle.address.specs.Address.{titleAt, titleOctets, writeTitle, title, subParam}
 use Rattle.address.specs.Plan.{Ready}
 use Rattle.address.proofs.Putting.{encoded, one-delivered}
 

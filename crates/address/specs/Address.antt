@@ -31,17 +31,19 @@ pub record Address : Type 0 where
   pub sub : Option ℕ
   pub others : List Param
 
--- A title has eight octets before its digits, else 1; three of them are reserved (RFC 3868, 3.10.2.3).
+-- Three reserved octets, indicator, digit count, translation type, numbering plan, nature, digits (RFC 3868, 3.10.2.3).
+abbrev pub titleAt : Alphabet → List ℕ → Title
+titleAt A v = record {
+  gti = getD v 3 0;
+  tt = getD v 5 0;
+  np = getD v 6 0;
+  noa = getD v 7 0;
+  digits = digitsIn A (drop 8 v) (getD v 4 0);
+}
+
+-- A title has eight octets before its digits, else 1 (document 01, 'Refused because of the input').
 unfoldable pub titleIn : Alphabet → List ℕ → Outcome Title
-titleIn A v =
-    demand (leb 8 (length v)) 1 (8 ∷ length v ∷ [])
-    (accepted (record {
-      gti = getD v 3 0;
-      tt = getD v 5 0;
-      np = getD v 6 0;
-      noa = getD v 7 0;
-      digits = digitsIn A (drop 8 v) (getD v 4 0);
-    }))
+titleIn A v = demand (leb 8 (length v)) 1 (8 ∷ length v ∷ []) (accepted (titleAt A v))
 
 -- Reading a title alone: 12, 1 (document 01, 'Order').
 unfoldable pub readTitle : Alphabet → List ℕ → Outcome Title

@@ -11,7 +11,7 @@ use Rattle.bcd.specs.Digits.{Alphabet, builtIn, digitsIn}
 use Rattle.parameter.specs.Parameter.{paddedLength, fourIn}
 use Rattle.parameter.specs.Walk.{places, valued}
 use Rattle.parameter.specs.declared.Place.{Place}
-use Rattle.address.specs.Address.{Title, Piece, title, code, sub, other, present, readAddress}
+use Rattle.address.specs.Address.{Title, titleAt, Piece, title, code, sub, other, present, readAddress}
 use Rattle.address.specs.Records.{flagged}
 use Rattle.address.specs.Listing.{otherPlaces}
 use Rattle.address.specs.declared.parts.Kept.{Kept}
@@ -83,15 +83,6 @@ abbrev pub judged : {X : Type 0} → Kept → Outcome X → Outcome X
 judged k o = pick (k .there) (shortRefusal (k .place)) o
 
 -- What is kept, as the parts of the address.
-abbrev pub titleAt : Alphabet → List ℕ → Title
-titleAt A v = record {
-  gti = getD v 3 0;
-  tt = getD v 5 0;
-  np = getD v 6 0;
-  noa = getD v 7 0;
-  digits = digitsIn A (drop 8 v) (getD v 4 0);
-}
-
 abbrev pub keptTitle : Alphabet → List ℕ → Kept → Option Title
 keptTitle A v k = flagged (k .there) (titleAt A (valued v (k .place) .value))
 

@@ -17,8 +17,8 @@ ghost use Rattle.bcd.specs.Outcome.{pick, mapped, each, most};
 ghost use Rattle.bcd.specs.Answers.{numbered, countedOf};
 ghost use Rattle.bcd.specs.Digits.{builtIn};
 ghost use Rattle.parameter.specs.Parameter.{runLength};
-ghost use Rattle.address.specs.Address.{title, code, present, subParam};
-ghost use Rattle.address.specs.Parts.{surveyedOf, interpreted, shortNumbers, titleAt, keptTitle};
+ghost use Rattle.address.specs.Address.{titleAt, title, code, present, subParam};
+ghost use Rattle.address.specs.Parts.{surveyedOf, interpreted, shortNumbers, keptTitle};
 ghost use Rattle.address.specs.Plan.{HeldIn, Read, Plan, PlanOf};
 
 // The parts of an address value that can be written, and how many octets it is then; or why it cannot.

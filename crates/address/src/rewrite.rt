@@ -20,8 +20,8 @@ ghost use Rattle.bcd.specs.Answers.{countedOf};
 ghost use Rattle.bcd.specs.Digits.{builtIn};
 ghost use Rattle.parameter.specs.Parameter.{runOctets, runLength, mostValue};
 ghost use Rattle.parameter.specs.Walk.{valued};
-ghost use Rattle.address.specs.Address.{title, code, sub, present, subParam, readAddress, writeAddress};
-ghost use Rattle.address.specs.Parts.{titleAt, keptTitle, keptCode, keptSub};
+ghost use Rattle.address.specs.Address.{titleAt, title, code, sub, present, subParam, readAddress, writeAddress};
+ghost use Rattle.address.specs.Parts.{keptTitle, keptCode, keptSub};
 ghost use Rattle.address.specs.Listing.{isOther, otherPlaces};
 ghost use Rattle.address.specs.Plan.{HeldIn, Ready, Walked, Plan, headOctets, othersOctets};
 

@@ -10,3 +10,4 @@ pub mod Filling
 pub mod Records
 pub mod Running
 pub mod InPlace
+pub mod Stored

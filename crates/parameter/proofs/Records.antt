@@ -143,7 +143,7 @@ each-inside values (p ∷ ps) qs e =
     (leb-true _ _ test, each-inside values ps vs hv)
 
 -- a value inside the values has the length of its record
-value-length : (values : List ℕ) (p : Place) → p .start + p .length ≤ length values → length (valued values p .value) ≡ p .length
+pub value-length : (values : List ℕ) (p : Place) → p .start + p .length ≤ length values → length (valued values p .value) ≡ p .length
 value-length values p h = rw (length-take (p .length) (drop (p .start) values), length-drop (p .start) values) (omega arith)
 
 -- records that lie inside, and their parameters

@@ -6,8 +6,7 @@ use Rattle.bcd.specs.Outcome.{mapped}
 use Rattle.bcd.specs.Digits.{builtIn}
 use Rattle.parameter.specs.Parameter.{runLength}
 use Rattle.parameter.proofs.Running.{part-of, part-length}
-use Rattle.address.specs.Address.{title, subParam}
-use Rattle.address.specs.Parts.{titleAt}
+use Rattle.address.specs.Address.{titleAt, title, subParam}
 use Rattle.address.proofs.Planning.{title-there, title-absent}
 use Rattle.address.proofs.interpret.title_length.Statement.{statement}
 use Rattle.address.proofs.interpret.title_length.Tie as tie

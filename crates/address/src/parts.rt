@@ -13,8 +13,8 @@ ghost use Rattle.address.specs.Parts.{nothing, keptPlace, sooner, noted,
 
 // A sub-parameter that the walk keeps, if there is one.
 pub struct Kept {
-    pub there: bool,
     pub place: Place,
+    pub there: bool,
 }
 
 // The first sub-parameter that is too short for its tag; the last title, point code and SSN; and of the others, how many

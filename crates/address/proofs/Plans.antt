@@ -1,6 +1,7 @@
 -- An address value that was interpreted, read and written again: refused, or these octets.
 use Prim.Native.Nat.{ℕ, _+_, _*_, _/_, _%_, _^_, _≤_, _<_}
 use mathlib.Core.Path.{_≡_, sym, ap, _∙_}
+use mathlib.Core.Bool.{Bool, true, false}
 use mathlib.Core.Logic.{_⊎_, inl, inr}
 use mathlib.Core.List.{List, [], _∷_, _++_, map}
 use native.Mathlib.Omega.{arith}
@@ -8,15 +9,18 @@ use borrow.Author.Tests.{le-leb, lt-leb}
 use lib.Dec.{eqb}
 use lib.ListN.{length, getD}
 use Rattle.bcd.specs.Outcome.{Outcome, accepted, refused, pick, after, mapped, each, fit64}
+use Rattle.bcd.specs.Answers.{refusalOf}
 use Rattle.bcd.specs.Digits.{builtIn}
+use Rattle.bcd.specs.declared.error.Refusal.{Refusal}
 use Rattle.bcd.proofs.Outcomes.{le-or-lt, mapped-inv, bounded-within}
 use Rattle.bcd.proofs.Characters.{builtIn-lawful}
 use Rattle.parameter.specs.Parameter.{Param, two, runOctets, runLength, mostValue, twoAt}
 use Rattle.parameter.proofs.RoundTrip.{run-length, run-length-append}
 use Rattle.address.specs.Address.{Address, Piece, title, present, addressWith, addressIn, readAddress, indicator, pieces, subParam, sized, writeAddress}
 use Rattle.address.specs.Parts.{keptTitle, keptPieces}
-use Rattle.address.specs.Plan.{Read, wireOf, Plan}
+use Rattle.address.specs.Plan.{Read, wireOf, Plan, PlanOf}
 use Rattle.address.specs.declared.parts.Parts.{Parts}
+use Rattle.address.specs.declared.interpret.Planned.the-variants as P
 use Rattle.address.proofs.Keeping.{pieceAt}
 use Rattle.address.proofs.Interpreting.{kept-pieces}
 use Rattle.address.proofs.Planning.{rest, rest-length, kept-written, kept-refused, others-sum}
@@ -113,3 +117,8 @@ plan-octets {v} {s} {total} tag p =
 
 pub plan-length : {v : List ℕ} {s : Parts} {total : ℕ} (tag : ℕ) (p : Plan v s total) → accepted total ≡ mapped length (after (readAddress builtIn v) (writeAddress builtIn tag))
 plan-length {v} {s} {total} tag p = sym (ap (mapped length) (plan-octets tag p) ∙ ap accepted (wire-length v (p .params) ∙ p .size))
+
+-- A value that is not read is refused, whether or not it is to be written.
+pub plan-refused : (written : Bool) (tag : ℕ) (v : List ℕ) (r : Refusal) → readAddress builtIn v ≡ refusalOf r → PlanOf written tag v (P.Refused r)
+plan-refused true tag v r e = ap (λ (o : Outcome Address). after o (writeAddress builtIn tag)) e
+plan-refused false tag v r e = e

@@ -4,10 +4,10 @@ use mathlib.Core.Bool.{Bool, true, false}
 use mathlib.Core.Option.{Option}
 use mathlib.Core.List.{List, [], _∷_, _++_, map}
 use lib.Dec.{ltb, eqb}
-use lib.ListN.{getD, drop}
+use lib.ListN.{getD}
 use Rattle.bcd.specs.Outcome.{Outcome, accepted, refused, pick, after, mapped}
 use Rattle.bcd.specs.Answers.{refusalOf}
-use Rattle.bcd.specs.Digits.{Alphabet, builtIn, digitsIn}
+use Rattle.bcd.specs.Digits.{Alphabet, builtIn}
 use Rattle.parameter.specs.Parameter.{paddedLength, fourIn}
 use Rattle.parameter.specs.Walk.{places, valued}
 use Rattle.parameter.specs.declared.Place.{Place}

@@ -2,7 +2,7 @@
 -- contract cites these.
 use Prim.Native.Nat.{ℕ, _+_, _%_, _≤_, _<_}
 use mathlib.Core.Path.{_≡_}
-use mathlib.Core.Bool.{true, false}
+use mathlib.Core.Bool.{Bool, true, false}
 use mathlib.Core.List.{List, [], _++_, map}
 use lib.ListN.{length, getD, set}
 use Rattle.bcd.specs.Outcome.{Outcome, accepted, refused, pick, after, each, Octets, most}
@@ -60,9 +60,17 @@ pub record Plan (v : List ℕ) (s : Parts) (total : ℕ) : Type 0 where
   pub size : 4 + runLength params ≡ total
   pub fits : total ≤ mostValue
 
-abbrev pub PlanOf : (tag : ℕ) → List ℕ → Planned → Type 0
-PlanOf tag v (P.Plan s total) = Plan v s total
-PlanOf tag v (P.Refused r) = after (readAddress builtIn v) (writeAddress builtIn tag) ≡ refusalOf r
+-- What interpreting a value gives: read and written again, or only read.
+abbrev pub WrittenAs : (tag : ℕ) → List ℕ → Planned → Type 0
+WrittenAs tag v (P.Plan s total) = Plan v s total
+WrittenAs tag v (P.Refused r) = after (readAddress builtIn v) (writeAddress builtIn tag) ≡ refusalOf r
+
+abbrev pub ReadAs : List ℕ → Planned → Type 0
+ReadAs v (P.Plan s total) = Read v s
+ReadAs v (P.Refused r) = readAddress builtIn v ≡ refusalOf r
+
+abbrev pub PlanOf : (written : Bool) → (tag : ℕ) → List ℕ → Planned → Type 0
+PlanOf written tag v r = pick written (WrittenAs tag v r) (ReadAs v r)
 
 -- The octets of the others.
 abbrev pub placesIn : Outcome (List Place) → List Place

@@ -19,9 +19,9 @@ ghost use Rattle.bcd.specs.Digits.{builtIn};
 ghost use Rattle.parameter.specs.Parameter.{runLength};
 ghost use Rattle.address.specs.Address.{titleAt, title, code, present, subParam};
 ghost use Rattle.address.specs.Parts.{surveyedOf, interpreted, shortNumbers, keptTitle};
-ghost use Rattle.address.specs.Plan.{HeldIn, Read, Plan, PlanOf};
+ghost use Rattle.address.specs.Plan.{HeldIn, Read, WrittenAs, PlanOf};
 
-// The parts of an address value that can be written, and how many octets it is then; or why it cannot.
+// The parts of an address value, and how many octets it is written as; or why it is refused.
 pub(crate) enum Planned {
     Plan(Parts, usize),
     Refused(Refusal),
@@ -83,7 +83,7 @@ pub(crate) fn four_length(there: bool) -> usize
 // The length of what is written, of an address value that was read. 9, then 10.
 fn measure(tag: u16, value: &[u8], parts: Parts) -> Planned
     requires { ⌜ Read (now value) parts ⌝ }
-    ensures { λ r. ⌜ PlanOf tag (now (value .entry)) r ⌝ }
+    ensures { λ r. ⌜ WrittenAs tag (now (value .entry)) r ⌝ }
 {
     let kept = parts.title;
     match title_length(value, kept) {
@@ -105,7 +105,7 @@ fn measure(tag: u16, value: &[u8], parts: Parts) -> Planned
 }
 
 // The parts of an address value. 12, 1, 8, 5 or 6 of the walk, then each sub-parameter's 1 or 6.
-pub fn interpret(value: &[u8]) -> Surveyed
+fn read(value: &[u8]) -> Surveyed
     ensures { λ r. ⌜ surveyedOf r ≡ interpreted (now (value .entry)) ⌝ }
 {
     let n = value.len();
@@ -135,12 +135,28 @@ pub fn interpret(value: &[u8]) -> Surveyed
     }
 }
 
-// How an address value is written again: reading's refusals, then 9, then 10.
-pub(crate) fn plan(tag: u16, value: &[u8]) -> Planned
-    ensures { λ r. ⌜ PlanOf tag (now (value .entry)) r ⌝ }
+// The parts of an address value and, if it is to be written, how many octets it is then. Reading's refusals; then, to be
+// written, 9, then 10. Only this function calls `read`, so that its code stands here and no parts are handed over.
+pub(crate) fn plan(written: bool, tag: u16, value: &[u8]) -> Planned
+    ensures { λ r. ⌜ PlanOf written tag (now (value .entry)) r ⌝ }
 {
-    match interpret(value) {
+    match read(value) {
         Surveyed::Refused(r) => Planned::Refused(r),
-        Surveyed::Parts(parts) => measure(tag, value, parts),
+        Surveyed::Parts(parts) => {
+            if written {
+                return measure(tag, value, parts);
+            }
+            Planned::Plan(parts, 0)
+        }
+    }
+}
+
+// The parts of an address value, with the refusals of its reading.
+pub fn interpret(value: &[u8]) -> Surveyed
+    ensures { λ r. ⌜ surveyedOf r ≡ interpreted (now (value .entry)) ⌝ }
+{
+    match plan(false, 0, value) {
+        Planned::Refused(r) => Surveyed::Refused(r),
+        Planned::Plan(parts, _) => Surveyed::Parts(parts),
     }
 }

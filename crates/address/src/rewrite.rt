@@ -29,7 +29,7 @@ ghost use Rattle.address.specs.Plan.{HeldIn, Ready, Walked, Plan, headOc
 pub fn rewritten_length(tag: u16, value: &[u8]) -> Counted
     ensures { λ r. ⌜ countedOf r ≡ mapped length (after (readAddress builtIn (now (value .entry))) (writeAddress builtIn tag)) ⌝ }
 {
-    match plan(tag, value) {
+    match plan(true, tag, value) {
         Planned::Refused(r) => Counted::Refused(r),
         Planned::Plan(_, length) => Counted::Count(length),
     }
@@ -215,7 +215,7 @@ fn write(value: &[u8], parts: Parts, total: usize, out: &mut [u8])
 pub fn rewrite(tag: u16, value: &[u8], out: &mut [u8]) -> Counted
     ensures { λ r. ⌜ record { answer = countedOf r; buffer = now (out .exit) } ≡ deliver (after (readAddress builtIn (now (value .entry))) (writeAddress builtIn tag)) (now (out .entry)) ⌝ }
 {
-    match plan(tag, value) {
+    match plan(true, tag, value) {
         Planned::Refused(r) => Counted::Refused(r),
         Planned::Plan(parts, total) => {
             if out.len() < total {

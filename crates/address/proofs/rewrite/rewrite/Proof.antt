@@ -5,7 +5,7 @@ use Prim.Native.Nat.{ℕ}
 use mathlib.Core.Path.{sym, ap, subst, _∙_}
 use Rattle.bcd.specs.Outcome.{Outcome, deliver}
 use Rattle.bcd.proofs.Outcomes.{deliver-refused, deliver-too-long}
-use Rattle.address.specs.Plan.{PlanOf}
+use Rattle.address.specs.Plan.{WrittenAs}
 use Rattle.address.proofs.Plans.{plan-length}
 use Rattle.address.proofs.Delivering.{any-tag}
 use Rattle.address.proofs.rewrite.rewrite.Statement.{statement}
@@ -25,7 +25,7 @@ returns c =
     let k = c .before .before in
     let p = k .before .before in
     let a = p .before .before .before .args in
-    let plan = subst (PlanOf (a .tag) (a .value .now)) (k .parts .given .1) (p .plan .ensures) in
+    let plan = subst (WrittenAs (a .tag) (a .value .now)) (k .parts .given .1) (p .plan .ensures) in
     deliver-too-long _ _ (a .out .now) (plan-length (a .tag) plan) (c .if1 .taken)
 
 write-requires : tie.Need-write-requires
@@ -33,13 +33,13 @@ write-requires c κs =
     let k = c .before .before .before in
     let p = k .before .before in
     let a = p .before .before .before .args in
-    (subst (PlanOf (a .tag) (a .value .now)) (k .parts .given .1) (p .plan .ensures), c .before .if1 .left)
+    (subst (WrittenAs (a .tag) (a .value .now)) (k .parts .given .1) (p .plan .ensures), c .before .if1 .left)
 
 returns-2 : tie.Need-returns-2
 returns-2 c =
     let p = c .before .before .before in
     let a = p .before .before .before .args in
-    deliver-refused _ _ (a .out .now) ∙ ap (λ (o : Outcome (List ℕ)). deliver o (a .out .now)) (sym (subst (PlanOf (a .tag) (a .value .now)) (c .before .r .given .1) (p .plan .ensures)))
+    deliver-refused _ _ (a .out .now) ∙ ap (λ (o : Outcome (List ℕ)). deliver o (a .out .now)) (sym (subst (WrittenAs (a .tag) (a .value .now)) (c .before .r .given .1) (p .plan .ensures)))
 
 same-length : tie.Need-same-length
 same-length c = search needs
@@ -50,7 +50,7 @@ returns-3 c =
     let k = w .before .before .before .before in
     let p = k .before .before in
     let a = p .before .before .before .args in
-    let plan = subst (PlanOf (a .tag) (a .value .now)) (k .parts .given .1) (p .plan .ensures) in
+    let plan = subst (WrittenAs (a .tag) (a .value .now)) (k .parts .given .1) (p .plan .ensures) in
     w .write .ensures ∙ ap (λ (o : Outcome (List ℕ)). deliver o (a .out .now)) (any-tag (a .tag) plan)
 
 pub rewrite-spec : {M : Type 1} → statement M

@@ -1,13 +1,13 @@
 -- One parameter: the cases of its definitions, and the buffer after each call of its writer.
 use Prim.Native.Nat.{ℕ, _+_, _-_, _*_, _/_, _≤_, _<_}
-use mathlib.Core.Path.{_≡_, refl, sym, ap, _∙_, subst}
+use mathlib.Core.Path.{_≡_, refl, sym, ap, _∙_}
 use mathlib.Core.Bool.{Bool, true, false}
 use mathlib.Core.Option.{none, some}
 use mathlib.Core.List.{List, [], _∷_, _++_, append-assoc}
 use native.Mathlib.Omega.{arith}
 use borrow.Author.Tests.{le-leb, lt-leb, leb-true}
 use lib.ListN.{length, take, drop, replicate, take-append-drop, length-append, length-take, length-drop, length-replicate}
-use lib.Seq.{take-length, drop-drop}
+use lib.Seq.{drop-drop}
 use lib.Dec.{leb}
 use borrow.Rule.Slice.PartMut.{midOf, putMid}
 use Rattle.bcd.specs.Outcome.{Outcome, accepted, refused, after, demand, mapped, most, bounded, deliver}
@@ -53,39 +53,6 @@ pub decode-step : (xs : List ℕ) (w : Outcome Walked) → w ≡ bounded xs (ste
 unfolding decodeParam
 decode-step xs w e = ap (λ (o : Outcome Walked). after o (taken xs)) e ∙ after-demand (leb (length xs) most) 12 _ (stepAt xs 0) (taken xs)
 
--- the buffer after each of the writer's four calls
-module _ (tag : ℕ) (v out : List ℕ) (room : paddedLength (length v) ≤ length out) where
-  pub after-tag : (d : List ℕ) → d ≡ two tag ++ drop 2 out → Begun out (two tag) d
-  after-tag d e = begin out (two tag) d (omega arith) e
-
-  pub after-length :
-      (d last : List ℕ)
-      → Begun out (two tag) d
-      → last ≡ two (length v + 4) ++ drop 2 (midOf 2 (length d - 2) d)
-      → Begun out (two tag ++ two (length v + 4)) (putMid 2 (length d - 2) d last)
-  after-length d last b e = extend (two (length v + 4)) last 2 (length d - 2) b refl (omega arith) (omega arith) e
-
-  pub after-value :
-      (d last : List ℕ)
-      → Begun out (two tag ++ two (length v + 4)) d
-      → last ≡ take (length v) v ++ drop (length v) (midOf 4 (length d - 4) d)
-      → Begun out (two tag ++ two (length v + 4) ++ v) (putMid 4 (length d - 4) d last)
-  after-value d last b e =
-      extend v last 4 (length d - 4) b refl (omega arith) (omega arith) (e ∙ ap (λ (l : List ℕ). l ++ drop (length v) (midOf 4 (length d - 4) d)) (take-length v))
-
-  pub after-padding :
-      (d last : List ℕ)
-      → Begun out (two tag ++ two (length v + 4) ++ v) d
-      → last ≡ replicate (length (midOf (length v + 4) ((length v + 4 + 3) / 4 * 4 - (length v + 4)) d)) 0
-      → Begun out (paramOctets (record { tag = tag; value = v })) (putMid (length v + 4) ((length v + 4 + 3) / 4 * 4 - (length v + 4)) d last)
-  unfolding paramOctets
-  after-padding d last b e =
-      let c : 4 + length v ≡ length v + 4 = omega arith in
-      let k = (length v + 4 + 3) / 4 * 4 - (length v + 4) in
-      let lent : length (midOf (length v + 4) k d) ≡ k = simp (length-take, length-drop) (omega (arith, b .same)) in
-      let all : last ≡ replicate k 0 = e ∙ ap (λ (i : ℕ). replicate i 0) lent in
-      rw (all, c) (extend-all (replicate k 0) (length v + 4) k b (simp length-append (omega arith)) (omega arith) (length-replicate k 0))
-
 pub wire-inv : (tag k n : ℕ) → accepted n ≡ wireLength tag k → (k ≤ mostValue) × (n ≡ paddedLength k)
 unfolding wireLength
 wire-inv tag k n e =
@@ -107,19 +74,19 @@ put-delivered p n d out h e room put =
 
 -- a value v of n octets that stands in place already
 module _ (tag n : ℕ) (v out : List ℕ) (l : length v ≡ n) (room : paddedLength n ≤ length out) where
-  -- the padding after it, as `after-padding` has it
+  -- the padding after it
   pub pad-behind :
       (d last : List ℕ)
       → Begun out (two tag ++ two (n + 4) ++ v) d
       → last ≡ replicate (length (midOf (n + 4) ((n + 4 + 3) / 4 * 4 - (n + 4)) d)) 0
       → Begun out (paramOctets (record { tag = tag; value = v })) (putMid (n + 4) ((n + 4 + 3) / 4 * 4 - (n + 4)) d last)
-  pad-behind d last =
-      subst
-      (λ (k : ℕ).
-      Begun out (two tag ++ two (k + 4) ++ v) d
-      → last ≡ replicate (length (midOf (k + 4) ((k + 4 + 3) / 4 * 4 - (k + 4)) d)) 0
-      → Begun out (paramOctets (record { tag = tag; value = v })) (putMid (k + 4) ((k + 4 + 3) / 4 * 4 - (k + 4)) d last))
-      l (after-padding tag v out (rw l room) d last)
+  unfolding paramOctets
+  pad-behind d last b e =
+      let c : 4 + n ≡ n + 4 = omega arith in
+      let k = (n + 4 + 3) / 4 * 4 - (n + 4) in
+      let lent : length (midOf (n + 4) k d) ≡ k = simp (length-take, length-drop) (omega (arith, b .same)) in
+      let all : last ≡ replicate k 0 = e ∙ ap (λ (i : ℕ). replicate i 0) lent in
+      rw (all, l, c) (extend-all (replicate k 0) (n + 4) k b (simp length-append (omega arith)) (omega arith) (length-replicate k 0))
 
   -- the tag and the length before it
   pub head-first : (d : List ℕ) → d ≡ two tag ++ drop 2 out → Begun out (two tag) d

@@ -49,6 +49,19 @@ module _ (out w last : List ℕ) (room : 4 + length w ≤ length out) (e : last 
   lent-length : length lent ≡ length out
   lent-length = begun .same
 
+-- Surrounded there, it is one parameter in front of what the buffer held.
+pub surrounded :
+    (tag : ℕ) (w out last d : List ℕ)
+    → paddedLength (length w) ≤ length out
+    → last ≡ w ++ drop (length w) (midOf 4 (length out - 4) out)
+    → d ≡ paramOctets (record { tag = tag; value = take (length w) (drop 4 (putMid 4 (length out - 4) out last)) }) ++ drop (paddedLength (length w)) (putMid 4 (length out - 4) out last)
+    → d ≡ paramOctets (record { tag = tag; value = w }) ++ drop (paddedLength (length w)) out
+surrounded tag w out last d room le e =
+    let at4 : 4 + length w ≤ length out = omega arith in
+    e
+    ∙ ap (λ (x : List ℕ). paramOctets (record { tag = tag; value = x }) ++ drop (paddedLength (length w)) (putMid 4 (length out - 4) out last)) (lent-value out w last at4 le)
+    ∙ ap (λ (x : List ℕ). paramOctets (record { tag = tag; value = w }) ++ x) (lent-beyond out w last at4 le (paddedLength (length w)) (omega arith))
+
 -- Framed there, it is one parameter in front of what the buffer held.
 pub framed-there :
     (tag : ℕ) (w out last d : List ℕ) {a : Outcome ℕ}

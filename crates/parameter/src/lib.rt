@@ -175,18 +175,27 @@ fn put_two(n: u16, out: &mut [u8])
     out[1] = (n % 256) as u8;
 }
 
+// Stores tag, length and padding round a value that stands at the fifth octet, for which there is room.
+fn surround(tag: u16, length: usize, out: &mut [u8])
+    requires { ⌜ length ≤ mostValue ⌝ }
+    requires { ⌜ paddedLength length ≤ lib.ListN.length (now out) ⌝ }
+    ensures { λ _. ⌜ now (out .exit) ≡ paramOctets (record { tag = tag; value = take length (drop 4 (now (out .entry))) }) ++ drop (paddedLength length) (now (out .entry)) ⌝ }
+{
+    let wire = length + 4;
+    let padded = (wire + 3) / 4 * 4;
+    put_two(tag, out);
+    put_two(wire as u16, &mut out[2..]);
+    clear(&mut out[wire..padded]);
+}
+
 // Stores one parameter, for which there is room, at the front of a slice.
 fn put(tag: u16, value: &[u8], out: &mut [u8])
     requires { ⌜ length (now value) ≤ mostValue ⌝ }
     requires { ⌜ paddedLength (length (now value)) ≤ length (now out) ⌝ }
     ensures { λ _. ⌜ now (out .exit) ≡ paramOctets (record { tag = tag; value = now (value .entry) }) ++ drop (paddedLength (length (now (value .entry)))) (now (out .entry)) ⌝ }
 {
-    let wire = value.len() + 4;
-    let padded = (wire + 3) / 4 * 4;
-    put_two(tag, out);
-    put_two(wire as u16, &mut out[2..]);
     bytes::copy(value, &mut out[4..]);
-    clear(&mut out[wire..padded]);
+    surround(tag, value.len(), out);
 }
 
 // Writes one parameter. 10, 14.
@@ -203,19 +212,6 @@ pub fn encode(tag: u16, value: &[u8], out: &mut [u8]) -> Counted
             Counted::Count(n)
         }
     }
-}
-
-// Stores tag, length and padding round a value that stands at the fifth octet, for which there is room.
-fn surround(tag: u16, length: usize, out: &mut [u8])
-    requires { ⌜ length ≤ mostValue ⌝ }
-    requires { ⌜ paddedLength length ≤ lib.ListN.length (now out) ⌝ }
-    ensures { λ _. ⌜ now (out .exit) ≡ paramOctets (record { tag = tag; value = take length (drop 4 (now (out .entry))) }) ++ drop (paddedLength length) (now (out .entry)) ⌝ }
-{
-    let wire = length + 4;
-    let padded = (wire + 3) / 4 * 4;
-    put_two(tag, out);
-    put_two(wire as u16, &mut out[2..]);
-    clear(&mut out[wire..padded]);
 }
 
 // Writes tag, length and padding round a value of this length that stands at the fifth octet of the output. 10, 14.

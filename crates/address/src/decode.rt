@@ -111,7 +111,8 @@ fn ssn_in(value: &[u8], kept: Kept) -> u8
     0
 }
 
-// The record of an address value that was read. The include bits are those of the address indicator.
+// The record of an address value that was read, whose routing indicator is then known. The include bits are those of the
+// address indicator, whether or not their parts are there.
 fn record_of(value: &[u8], parts: Parts) -> SuaAddress
     requires { ⌜ Read (now value) parts ⌝ }
     ensures { λ r. ⌜ accepted r ≡ mapped addressRecord (readAddress builtIn (now (value .entry))) ⌝ }

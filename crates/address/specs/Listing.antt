@@ -33,11 +33,13 @@ abbrev pub routingNamed : ℕ → RoutingIndicator
 routingNamed n =
     getD (I.Reserved ∷ I.RouteOnGlobalTitle ∷ I.RouteOnSsnAndPc ∷ I.RouteOnHostname ∷ I.RouteOnSsnAndIp ∷ []) n I.Reserved
 
+-- Whether a part is there.
 abbrev pub isThere : {X : Type 0} → Option X → Bool
 isThere none = false
 isThere (some x) = true
 
--- The record of an address. A part that is absent has zeros in its field.
+-- The record of an address: each part with a flag that says whether it is there, and zeros where it is not (document 01,
+-- 'Rust forms that cannot stay').
 abbrev pub addressRecord : Address → SuaAddress
 addressRecord a = record {
   «routing_indicator» = routingNamed (a .routing);

@@ -1,4 +1,5 @@
--- What reading a title answers: whether it was read, beside the title; all zeros where it was refused.
+-- What reading a title answers: whether it was read, beside the title; all zeros where it was refused (document 01, 'Rust
+-- forms that cannot stay': digits are 255 octets and a count, which an enum cannot hold).
 use mathlib.Core.List.{List, _++_}
 use Prim.Native.Nat.{ℕ}
 use lib.ListN.{length, drop, replicate}
@@ -10,6 +11,7 @@ use Rattle.address.specs.declared.GlobalTitle.{GlobalTitle}
 use Rattle.address.specs.declared.title.Verdict.{Verdict}
 use Rattle.address.specs.declared.title.Verdict.the-variants as D
 
+-- Which outcome each verdict is.
 abbrev pub verdictOf : Verdict → Outcome (Unit {0})
 verdictOf D.Done = accepted tt
 verdictOf (D.Refused r) = refusalOf r

@@ -1,7 +1,6 @@
 // An address value interpreted by one walk: the parts that are written, and how many octets they are.
 use crate::Routing;
 use crate::RoutingIndicator;
-use crate::be16;
 use crate::parts::Kept;
 use crate::parts::Parts;
 use crate::parts::Surveyed;
@@ -9,6 +8,7 @@ use crate::parts::survey;
 use bcd::error::Counted;
 use bcd::error::Refusal;
 use parameter::Place;
+use parameter::be16;
 use parameter::tags;
 ghost use mathlib.Core.Path.{_≡_};
 ghost use Prim.Native.Nat.{_+_, _≤_, _<_};
@@ -28,7 +28,7 @@ pub(crate) enum Planned {
 }
 
 // Why a sub-parameter is too short: a title has eight octets, a point code and an SSN four.
-pub fn too_short(place: Place) -> Refusal
+fn too_short(place: Place) -> Refusal
     ensures { λ r. ⌜ numbered r ≡ shortNumbers place ⌝ }
 {
     let tag = place.tag;

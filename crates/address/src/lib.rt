@@ -8,24 +8,11 @@ pub mod title;
 
 use bcd::error::Refusal;
 ghost use mathlib.Core.Path.{_≡_};
-ghost use Prim.Native.Nat.{_+_, _*_, _≤_, min};
+ghost use Prim.Native.Nat.{_+_, _≤_};
 ghost use mathlib.Core.List.{[]};
 ghost use Rattle.bcd.specs.Outcome.{pick};
 ghost use Rattle.address.specs.Address.{routingIn, indicator};
 ghost use Rattle.address.specs.Records.{routingValue, routingOf, addressOf, titleRecord, withGt, withSsnPc};
-
-// A 16-bit number of two octets, the high one first.
-fn be16(high: u8, low: u8) -> u16
-    ensures { λ r. ⌜ r ≡ high * 256 + low ⌝ }
-{
-    (high as u16) * 256 + (low as u16)
-}
-
-fn smaller(a: usize, b: usize) -> usize
-    ensures { λ r. ⌜ r ≡ min a b ⌝ }
-{
-    if a < b { a } else { b }
-}
 
 // How an address is routed (RFC 3868, 3.10.2.1).
 pub enum RoutingIndicator {

@@ -132,7 +132,7 @@ impl Parts {
 }
 
 // Walks the sub-parameters behind the first four octets. 12, then 5 or 6 in wire order.
-pub fn survey(value: &[u8]) -> Surveyed
+pub(crate) fn survey(value: &[u8]) -> Surveyed
     ensures { λ r. ⌜ surveyedOf r ≡ bounded (now (value .entry)) (mapped (noteAll nothing) (places (now (value .entry)) 4)) ⌝ }
 {
     if 1048576 < value.len() {

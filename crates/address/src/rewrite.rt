@@ -4,7 +4,6 @@ use crate::interpret::Planned;
 use crate::interpret::plan;
 use crate::parts::Kept;
 use crate::parts::Parts;
-use crate::smaller;
 use bcd::error::Counted;
 use bcd::error::Refusal;
 use parameter::Cursor;
@@ -61,7 +60,7 @@ fn put_title(value: &[u8], out: &mut [u8]) -> usize
     ensures { λ r. ⌜ record { answer = accepted r; buffer = now (out .exit) } ≡ deliver (mapped runOctets (subParam builtIn (title (titleAt builtIn (now (value .entry)))))) (now (out .entry)) ⌝ }
 {
     let count = value[4] as usize;
-    let digits = smaller(count, 2 * (value.len() - 8));
+    let digits = bcd::smaller(count, 2 * (value.len() - 8));
     let octets = (digits + 1) / 2;
     let end = 8 + octets;
     parameter::encode(tags::GLOBAL_TITLE, &value[..end], out);

@@ -135,7 +135,8 @@ fn unpack_digits(bytes: &[u8], n: usize, out: &mut [u8])
     }
 }
 
-fn smaller(a: usize, b: usize) -> usize
+// The smaller of two numbers.
+pub fn smaller(a: usize, b: usize) -> usize
     ensures { λ r. ⌜ r ≡ min a b ⌝ }
 {
     if a < b { a } else { b }

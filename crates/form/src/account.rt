@@ -1,6 +1,5 @@
 // A flat account of a message with its addresses. The same walk measures and writes: octets that the slice has no place
 // for are counted and not stored.
-use crate::be16;
 use crate::be32;
 use crate::is_address;
 use address::interpret::interpret;
@@ -15,6 +14,7 @@ use message::header::HeaderRead;
 use parameter::Cursor;
 use parameter::Place;
 use parameter::Step;
+use parameter::be16;
 ghost use mathlib.Core.Path.{_≡_};
 ghost use mathlib.Core.List.{[], _∷_, map};
 ghost use Prim.Native.Nat.{ℕ, _+_, _*_, _^_, _≤_, _<_};

@@ -1,6 +1,5 @@
 // A message written from a flat list: for each parameter its tag (2 octets), the length of its value (4 octets) and the
 // value.
-use crate::be16;
 use crate::be32;
 use bcd::error::Counted;
 use bcd::error::Refusal;
@@ -10,6 +9,7 @@ use message::header::TypeRead;
 use parameter::Cursor;
 use parameter::Place;
 use parameter::Step;
+use parameter::be16;
 ghost use mathlib.Core.Path.{_≡_};
 ghost use Prim.Native.Nat.{ℕ, _+_, _≤_};
 ghost use mathlib.Core.List.{List};

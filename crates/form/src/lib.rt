@@ -24,13 +24,6 @@ ghost use Rattle.parameter.specs.Walk.{valued};
 ghost use Rattle.form.specs.Form.{isAddress, settledParam, settled};
 ghost use Rattle.form.specs.Passes.{settledRun, sumOf, Placeable};
 
-// A number of two octets, the high one first.
-fn be16(high: u8, low: u8) -> u16
-    ensures { λ r. ⌜ r ≡ high * 256 + low ⌝ }
-{
-    (high as u16) * 256 + (low as u16)
-}
-
 // A number of two numbers of 16 bits, the high one first.
 fn be32(high: u16, low: u16) -> usize
     ensures { λ r. ⌜ r ≡ high * 65536 + low ⌝ }

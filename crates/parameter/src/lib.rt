@@ -54,7 +54,7 @@ pub enum Found {
 }
 
 // A 16-bit number of two octets, the high one first.
-fn be16(high: u8, low: u8) -> u16
+pub fn be16(high: u8, low: u8) -> u16
     ensures { λ r. ⌜ r ≡ high * 256 + low ⌝ }
 {
     (high as u16) * 256 + (low as u16)

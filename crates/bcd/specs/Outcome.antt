@@ -61,6 +61,10 @@ pub record Delivered : Type 0 where
   pub answer : Outcome ℕ
   pub buffer : List ℕ
 
+-- An answer beside what the buffer then holds.
+abbrev pub delivered : Outcome ℕ → List ℕ → Delivered
+delivered answer buffer = record { answer = answer; buffer = buffer }
+
 -- Octets that fit stand in front of what the buffer held beyond them, and their number is answered. Octets that do not
 -- fit are refused as 14 with the length needed, and a refusal leaves the buffer as it was (document 01, 'Agreement on contracts').
 unfoldable pub deliver : Outcome (List ℕ) → List ℕ → Delivered

@@ -8,7 +8,7 @@ ghost use mathlib.Core.Path.{_≡_};
 ghost use Prim.Native.Nat.{ℕ, _+_, _*_, _/_, _≤_, _<_, min};
 ghost use mathlib.Core.List.{List, map};
 ghost use lib.ListN.{length, getD, replicate};
-ghost use Rattle.bcd.specs.Outcome.{accepted, mapped, All, deliver};
+ghost use Rattle.bcd.specs.Outcome.{accepted, mapped, All, delivered, deliver};
 ghost use Rattle.bcd.specs.Answers.{countedOf};
 ghost use Rattle.bcd.specs.Digits.{halves, pack, nibble, builtIn, digitsIn, readDigits, writeDigits};
 
@@ -96,7 +96,9 @@ fn pack_digits(digits: &[u8], n: usize, out: &mut [u8])
 
 // Writes digits, two to an octet. 11, then 9 at the first octet that is no digit, then 14.
 pub fn encode_gt_digits(digits: &[u8], out: &mut [u8]) -> Counted
-    ensures { λ r. ⌜ record { answer = countedOf r; buffer = now (out .exit) } ≡ deliver (writeDigits builtIn (now (digits .entry))) (now (out .entry)) ⌝ }
+    ensures { λ r. ⌜
+        delivered (countedOf r) (now (out .exit))
+        ≡ deliver (writeDigits builtIn (now (digits .entry))) (now (out .entry)) ⌝ }
 {
     match gt_digits_length(digits) {
         Counted::Refused(r) => Counted::Refused(r),

@@ -14,6 +14,10 @@ pub record Table : Type 0 where
   pub starts : List ℕ
   pub lengths : List ℕ
 
+-- The three slices of a lent table.
+abbrev pub table : (tags starts lengths : List ℕ) → Table
+table tags starts lengths = record { tags = tags; starts = starts; lengths = lengths }
+
 -- The shortest slice is the table's room (docs/DECISIONS.md, point 1).
 unfoldable pub room : Table → ℕ
 room t = min (length (t .tags)) (min (length (t .starts)) (length (t .lengths)))
@@ -22,6 +26,10 @@ room t = min (length (t .tags)) (min (length (t .starts)) (length (t .lengths)))
 pub record Tabulated : Type 0 where
   pub answer : Outcome ℕ
   pub table : Table
+
+-- An answer beside what the table then holds.
+abbrev pub tabulated : Outcome ℕ → Table → Tabulated
+tabulated answer held = record { answer = answer; table = held }
 
 -- A list in front of what a slice held beyond it.
 abbrev pub over : List ℕ → List ℕ → List ℕ

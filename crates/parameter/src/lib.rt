@@ -11,7 +11,7 @@ ghost use Rattle.bcd.specs.Outcome.{accepted, refused, pick, after, mapped, eac
 ghost use Rattle.bcd.specs.Answers.{countedOf};
 ghost use Rattle.parameter.specs.Parameter.{Param, two, roundUp, paddedLength, paramOctets, mostValue, encodeParam, encodeParams, wireLength, frameParam, numberIn};
 ghost use Rattle.parameter.specs.Walk.{stepAt, places, valued, decodeParam};
-ghost use Rattle.parameter.specs.Table.{Table, Tabulated, tabulate, rows, records, findParam};
+ghost use Rattle.parameter.specs.Table.{table, tabulated, Table, Tabulated, tabulate, rows, records, findParam};
 ghost use Rattle.parameter.specs.Answers.{stepOf, oneOf, numberOf, foundOf};
 
 // A parameter's tag, and where its value starts and how long it is in the octets given.
@@ -327,7 +327,10 @@ pub fn decode_parameters(
     starts: &mut [usize],
     lengths: &mut [usize],
 ) -> Counted
-    ensures { λ r. ⌜ record { answer = countedOf r; table = record { tags = now (tags .exit); starts = now (starts .exit); lengths = now (lengths .exit) } } ≡ tabulate (bounded (now (bytes .entry)) (places (now (bytes .entry)) 0)) (record { tags = now (tags .entry); starts = now (starts .entry); lengths = now (lengths .entry) }) ⌝ }
+    ensures { λ r. ⌜
+        tabulated (countedOf r) (table (now (tags .exit)) (now (starts .exit)) (now (lengths .exit)))
+        ≡ tabulate (bounded (now (bytes .entry)) (places (now (bytes .entry)) 0))
+        (table (now (tags .entry)) (now (starts .entry)) (now (lengths .entry))) ⌝ }
 {
     decode_parameters_from(bytes, 0, tags, starts, lengths)
 }

@@ -53,6 +53,19 @@ module _ {K M : Type 0} (F : Family K M) where
           writes = each-append (F .write) ms (t .parts) us vs hw (t .writes);
         })
 
+    -- What the parameters of a message are written as fits in a message again.
+    pub rewritten-small :
+        (xs : List ℕ) (m : Framed K) (qs : List Param)
+        → Octets xs
+        → readOf (F .kinds) xs ≡ accepted m
+        → each (norm F) (m .params) ≡ accepted qs
+        → Rewritten (m .params) qs × (8 + runLength qs ≤ roundUp (length xs)) × (8 + runLength qs ≤ most)
+    rewritten-small xs m qs o hm hq =
+        let r = read-inv (F .kinds) xs m hm in
+        let k = rewritten (m .params) qs (read-fits (F .kinds) xs m r o) hq in
+        let room : 8 + runLength qs ≤ roundUp (length xs) = omega (arith, k .room, read-room (F .kinds) xs m r) in
+        (k, room, omega (arith, r .small))
+
     -- What is known of a form.
     pub record Formed (xs f : List ℕ) : Type 0 where
       pub kind : K
@@ -74,9 +87,7 @@ module _ {K M : Type 0} (F : Family K M) where
         let (qs, hq, j) = mapped-inv _ (each (norm F) (m .params)) e1 in
         let r = read-inv (F .kinds) xs m hm in
         let (c, t) = L .paired _ _ (m .kind) (r .kind) in
-        let k = rewritten (m .params) qs (read-fits (F .kinds) xs m r o) hq in
-        let room : 8 + runLength qs ≤ roundUp (length xs) = omega (arith, k .room, read-room (F .kinds) xs m r) in
-        let small : 8 + runLength qs ≤ most = omega (arith, r .small) in
+        let (k, room, small) = rewritten-small xs m qs o hm hq in
         record {
           kind = m .kind;
           old = m .params;

@@ -1,3 +1,5 @@
+pub mod Ignored
+pub mod Encoded
 pub mod Family
 pub mod Forms
 pub mod Refusals
@@ -8,18 +10,4 @@ pub mod Passes
 pub mod Measuring
 pub mod Placing
 pub mod Written
-pub mod Reports
-pub mod FlatList
-pub mod Summing
-pub mod FlatWriting
-pub mod Emission
-pub mod Describing
-pub mod OtherPlaces
-pub mod Accounting
-pub mod Going
-pub mod AccountDone
 pub mod Worked
-pub mod Lines
-pub mod Printing
-pub mod Printed
-pub mod Program

@@ -12,6 +12,7 @@ use Rattle.parameter.specs.Walk.{ended, found, stepAt, valued}
 use Rattle.parameter.proofs.Walking.{step-inv}
 use Rattle.parameter.proofs.Reaching.{Reached, reached-start, reached-out, reached-next, reached-end, reached-refused}
 use Rattle.bcd.proofs.Outcomes.{mapped-inv, octets-of}
+use Rattle.bcd.proofs.Characters.{builtIn-lawful}
 use Rattle.message.specs.declared.header.CommonHeader.{CommonHeader}
 use Rattle.message.specs.Message.{readHeader, messageOctets}
 use Rattle.message.proofs.Messages.{message-length}
@@ -70,6 +71,6 @@ pub run-small :
     → 8 + n ≤ most
 run-small xs h n o e k =
     let (qs, q, l) = mapped-inv runLength (settledRun builtIn xs) (sym k) in
-    let f = settled-run builtIn xs h e ∙ ap (mapped (messageOctets (h .«message_type»))) q in
+    let f = settled-run builtIn builtIn-lawful xs (octets-of xs o) h e ∙ ap (mapped (messageOctets (h .«message_type»))) q in
     let room = form-room xs _ (octets-of xs o) f .1 in
     omega (arith, message-length (h .«message_type») qs)

@@ -7,8 +7,8 @@ use native.Mathlib.Omega.{arith}
 use lib.Dec.{leb}
 use lib.ListN.{length, take, drop, length-take, length-drop}
 use borrow.Author.Tests.{leb-true}
-use Rattle.bcd.specs.Outcome.{Outcome, accepted, refused, after, mapped, each}
-use Rattle.bcd.specs.Digits.{Alphabet, builtIn}
+use Rattle.bcd.specs.Outcome.{Outcome, accepted, refused, after, mapped, each, Octets}
+use Rattle.bcd.specs.Digits.{Alphabet, Lawful, builtIn}
 use Rattle.bcd.proofs.Outcomes.{accepted-inj, never, after-inv, mapped-inv, mapped-mapped, demand-inv, bounded-within}
 use Rattle.parameter.specs.declared.Place.{Place}
 use Rattle.parameter.specs.Parameter.{Param, two, paddedLength, mostValue, paramOctets, runOctets, runLength, encodeParam, wireLength}
@@ -24,23 +24,14 @@ use Rattle.message.proofs.Messages.{message-length}
 use Rattle.message.proofs.Listing.{framed}
 use Rattle.form.specs.Form.{isAddress, settledParam, settled}
 use Rattle.form.specs.Passes.{settledRun, sumOf}
+use Rattle.form.proofs.Encoded.{settled-unread}
+use Rattle.form.proofs.Sua.{settled-plain}
 
 -- the header first
 module _ (A : Alphabet) (xs : List ℕ) where
   pub settled-refused : (n : ℕ) (vs : List ℕ) → readHeader xs ≡ refused n vs → settled A xs ≡ refused n vs
-  unfolding settled readMessage
-  settled-refused n vs e = rw e
-
-  pub settled-run : (h : CommonHeader) → readHeader xs ≡ accepted h → settled A xs ≡ mapped (messageOctets (h .«message_type»)) (settledRun A xs)
-  unfolding settled readMessage settledRun
-  settled-run h e = rw e (go (parameters (drop 8 xs)))
-    where
-      go :
-          (o : Outcome (List Param))
-          → after (mapped (λ ps. record { type = h .«message_type»; params = ps }) o) (λ (m : Message). mapped (messageOctets (m .type)) (each (settledParam A) (m .params)))
-          ≡ mapped (messageOctets (h .«message_type»)) (after o (each (settledParam A)))
-      go (accepted ps) = refl
-      go (refused n vs) = refl
+  unfolding readMessage
+  settled-refused n vs e = settled-unread A xs n vs (rw e)
 
   -- the walk gives the parameters
   pub run-walked : (ps : List Place) → places xs 8 ≡ accepted ps → settledRun A xs ≡ each (settledParam A) (map (valued xs) ps)
@@ -51,9 +42,22 @@ module _ (A : Alphabet) (xs : List ℕ) where
   unfolding settledRun
   run-refused n vs e = ap (λ o. after o (each (settledParam A))) (sym (places-parameters xs 8) ∙ ap (mapped (map (valued xs))) e)
 
+-- of octets
+module _ (A : Alphabet) (L : Lawful A) (xs : List ℕ) (o : Octets xs) (h : CommonHeader) (e : readHeader xs ≡ accepted h) where
+  pub settled-run : settled A xs ≡ mapped (messageOctets (h .«message_type»)) (settledRun A xs)
+  unfolding readMessage settledRun
+  settled-run = settled-plain A L xs o ∙ rw e (go (parameters (drop 8 xs)))
+    where
+      go :
+          (o : Outcome (List Param))
+          → after (mapped (λ ps. record { type = h .«message_type»; params = ps }) o) (λ (m : Message). mapped (messageOctets (m .type)) (each (settledParam A) (m .params)))
+          ≡ mapped (messageOctets (h .«message_type»)) (after o (each (settledParam A)))
+      go (accepted ps) = refl
+      go (refused n vs) = refl
+
   -- the length of a form is the header's and the parameters'
-  pub length-run : (h : CommonHeader) (o : Outcome ℕ) → readHeader xs ≡ accepted h → o ≡ mapped runLength (settledRun A xs) → mapped (λ n. 8 + n) o ≡ mapped length (settled A xs)
-  length-run h o e k = ap (mapped (λ n. 8 + n)) k ∙ go (settledRun A xs) ∙ sym (ap (mapped length) (settled-run h e))
+  pub length-run : (r : Outcome ℕ) → r ≡ mapped runLength (settledRun A xs) → mapped (λ n. 8 + n) r ≡ mapped length (settled A xs)
+  length-run r k = ap (mapped (λ n. 8 + n)) k ∙ go (settledRun A xs) ∙ sym (ap (mapped length) settled-run)
     where
       go : (r : Outcome (List Param)) → mapped (λ n. 8 + n) (mapped runLength r) ≡ mapped length (mapped (messageOctets (h .«message_type»)) r)
       go (accepted qs) = ap accepted (sym (message-length (h .«message_type») qs))
@@ -202,13 +206,17 @@ pub record Run (A : Alphabet) (xs : List ℕ) (h : CommonHeader) (run : ℕ) : T
   pub whole : settled A xs ≡ accepted (framed (h .«message_type») octets)
   pub size : run ≡ length octets
 
-pub run-known : (A : Alphabet) (xs : List ℕ) (h : CommonHeader) (run : ℕ) → readHeader xs ≡ accepted h → accepted run ≡ mapped runLength (settledRun A xs) → Run A xs h run
+pub run-known :
+    (A : Alphabet) (L : Lawful A) (xs : List ℕ) (o : Octets xs) (h : CommonHeader) (run : ℕ)
+    → readHeader xs ≡ accepted h
+    → accepted run ≡ mapped runLength (settledRun A xs)
+    → Run A xs h run
 unfolding messageOctets
-run-known A xs h run e k =
+run-known A L xs o h run e k =
     let (qs, q, l) = mapped-inv runLength (settledRun A xs) (sym k) in
     record {
       octets = runOctets qs;
       written = ap (mapped runOctets) q;
-      whole = settled-run A xs h e ∙ ap (mapped (messageOctets (h .«message_type»))) q;
+      whole = settled-run A L xs o h e ∙ ap (mapped (messageOctets (h .«message_type»))) q;
       size = sym l ∙ sym (run-length qs);
     }

@@ -7,6 +7,7 @@ use Rattle.bcd.specs.Outcome.{Outcome, accepted, refused, after, mapped, each, 
 use Rattle.bcd.proofs.Outcomes.{accepted-inj, never, after-inv, mapped-inv, each-cons, each-inv, each-refused}
 use Rattle.parameter.specs.Parameter.{Param}
 use Rattle.message.proofs.Framing.{Framed, readOf, octetsOf}
+use Rattle.form.specs.HasForm.{FirstRefused}
 use Rattle.form.proofs.Family.{Family, norm, settledOf}
 
 -- A refusal that is passed on.
@@ -31,18 +32,8 @@ after-refuses (accepted a) f n vs = (
 after-refuses (refused m ws) f n vs = ((λ e. inl (passed-on e)), ⊎-elim passed-on (λ (b, h, e). absurd (never h)))
 
 module _ {A B : Type 0} (f : A → Outcome (List B)) where
-  -- The first element that is refused, behind elements that are accepted.
-  pub record FirstRefused (xs : List A) (n : ℕ) (vs : List ℕ) : Type 0 where
-    pub before : List A
-    pub here : A
-    pub behind : List A
-    pub split : xs ≡ before ++ here ∷ behind
-    pub given : List B
-    pub accepts : each f before ≡ accepted given
-    pub refuses : f here ≡ refused n vs
-
   -- An element in front that is accepted.
-  next : (x : A) (xs : List A) (us : List B) (n : ℕ) (vs : List ℕ) → f x ≡ accepted us → FirstRefused xs n vs → FirstRefused (x ∷ xs) n vs
+  next : (x : A) (xs : List A) (us : List B) (n : ℕ) (vs : List ℕ) → f x ≡ accepted us → FirstRefused f xs n vs → FirstRefused f (x ∷ xs) n vs
   next x xs us n vs h r = record {
     before = x ∷ r .before;
     here = r .here;
@@ -53,7 +44,7 @@ module _ {A B : Type 0} (f : A → Outcome (List B)) where
     refuses = r .refuses;
   }
 
-  first-refused : (xs : List A) (n : ℕ) (vs : List ℕ) → each f xs ≡ refused n vs → FirstRefused xs n vs
+  first-refused : (xs : List A) (n : ℕ) (vs : List ℕ) → each f xs ≡ refused n vs → FirstRefused f xs n vs
   first-refused [] n vs e = absurd (never (sym e))
   first-refused (x ∷ xs) n vs e = on (f x) refl e (λ d. first-refused xs n vs d)
     where
@@ -61,12 +52,12 @@ module _ {A B : Type 0} (f : A → Outcome (List B)) where
           (o : Outcome (List B))
           → f x ≡ o
           → after o (λ ys. mapped (λ zs. ys ++ zs) (each f xs)) ≡ refused n vs
-          → (each f xs ≡ refused n vs → FirstRefused xs n vs)
-          → FirstRefused (x ∷ xs) n vs
+          → (each f xs ≡ refused n vs → FirstRefused f xs n vs)
+          → FirstRefused f (x ∷ xs) n vs
       on (accepted us) h e ih = next x xs us n vs h (ih (mapped-refuses (λ zs. us ++ zs) (each f xs) n vs .0 e))
       on (refused m ws) h e ih = record { before = []; here = x; behind = xs; split = refl; given = []; accepts = refl; refuses = h ∙ e }
 
-  pub each-refuses : (xs : List A) (n : ℕ) (vs : List ℕ) → (each f xs ≡ refused n vs) ↔ FirstRefused xs n vs
+  pub each-refuses : (xs : List A) (n : ℕ) (vs : List ℕ) → (each f xs ≡ refused n vs) ↔ FirstRefused f xs n vs
   each-refuses xs n vs = (
     first-refused xs n vs,
     (λ r. ap (each f) (r .split) ∙ each-refused f (r .before) (r .here) (r .behind) (r .given) n vs (r .accepts) (r .refuses)),

@@ -16,15 +16,16 @@ use Rattle.message.specs.declared.header.MessageType.{MessageType}
 use Rattle.message.specs.Message.{Message, readMessage, messageOctets, writeMessage}
 use Rattle.message.proofs.Messages.{messageOf, message-framed, octets-framed, message-written}
 use Rattle.form.specs.Form.{isAddress, settledParam, settled, Part, Meaning, meaning}
+use Rattle.form.specs.HasForm.{Settles, FirstRefused}
 use Rattle.form.proofs.Family.{Meant, settledOf, meaningOf}
 use Rattle.form.proofs.Forms as F
-use Rattle.form.proofs.Refusals.{mapped-refuses, after-refuses, FirstRefused, Accepts, all-iff, through-accepts, through-refuses}
-use Rattle.form.proofs.Sua.{sua, meantBy, settled-framed, meaning-framed, meaning-same, sua-lawful}
+use Rattle.form.proofs.Refusals.{mapped-refuses, after-refuses, Accepts, all-iff, through-accepts, through-refuses}
+use Rattle.form.proofs.Sua.{sua, meantBy, settled-plain, settled-framed, meaning-framed, meaning-same, sua-lawful}
 
 module _ (A : Alphabet) (L : Lawful A) where
   module _ (xs f : List ℕ) (o : Octets xs) (e : settled A xs ≡ accepted f) where
     framed : settledOf (sua A) xs ≡ accepted f
-    framed = sym (settled-framed A xs) ∙ e
+    framed = sym (settled-framed A L xs o) ∙ e
 
     abbrev known : Meant MessageType Part
     known = F.meant (sua A) (sua-lawful A L) xs f o framed
@@ -39,9 +40,12 @@ module _ (A : Alphabet) (L : Lawful A) where
         let behind = meant f (F.remeans (sua A) (sua-lawful A L) xs f o framed) in
         (behind ∙ sym before, (_, behind))
 
+    pub form-octets : Octets f
+    form-octets = F.form-octets (sua A) (sua-lawful A L) xs f o framed
+
     -- Again: a form is its own form.
     pub again : settled A f ≡ accepted f
-    again = settled-framed A f ∙ F.again (sua A) (sua-lawful A L) xs f o framed
+    again = settled-framed A L f form-octets ∙ F.again (sua A) (sua-lawful A L) xs f o framed
 
     -- Length: that of the header, and the padded lengths of the parameters that reading the form gives.
     pub form-length : (m : Message) × (readMessage f ≡ accepted m) × (length f ≡ 8 + runLength (m .params))
@@ -67,9 +71,6 @@ module _ (A : Alphabet) (L : Lawful A) where
     pub form-declared : (rest : List ℕ) → fourIn (drop 4 (f ++ rest)) ≡ length f
     form-declared = F.form-declared (sua A) (sua-lawful A L) xs f o framed
 
-    pub form-octets : Octets f
-    form-octets = F.form-octets (sua A) (sua-lawful A L) xs f o framed
-
   -- Equal: two forms are equal exactly where the messages mean the same.
   pub equal :
       (xs ys f g : List ℕ)
@@ -84,17 +85,11 @@ module _ (A : Alphabet) (L : Lawful A) where
       ((λ same. up (to same)), (λ same. from (down same)))
 
 module _ (A : Alphabet) where
-  -- A parameter can be settled unless it is an address that is not read, or not written again.
-  abbrev pub Settles : Param → Type 0
-  Settles p =
-      isAddress (p .tag) ≡ true
-      → (a : Address) × (addressIn A (p .value) ≡ accepted a) × ((w : List ℕ) × (writeAddress A (p .tag) a ≡ accepted w))
-
-  settles : (p : Param) → Accepts (settledParam A) p ↔ Settles p
+  settles : (p : Param) → Accepts (settledParam A) p ↔ Settles A p
   unfolding settledParam rewriteAddress
   settles p = on (isAddress (p .tag)) refl
     where
-      on : (t : Bool) → isAddress (p .tag) ≡ t → Accepts (settledParam A) p ↔ Settles p
+      on : (t : Bool) → isAddress (p .tag) ≡ t → Accepts (settledParam A) p ↔ Settles A p
       on true h = (
         (λ (qs, e) _.
             let (w, hw, j) = mapped-inv _ (after (addressIn A (p .value)) (writeAddress A (p .tag))) (rw h at e) in
@@ -104,17 +99,17 @@ module _ (A : Alphabet) where
       )
       on false h = ((λ _ t. let z : _≡_ {A = ℕ} 0 1 = cc in absurd (omega arith)), (λ s. (p ∷ [], rw h)))
 
-  module _ (xs : List ℕ) where
+  module _ (L : Lawful A) (xs : List ℕ) (o : Octets xs) where
     -- Which messages have a form: those that are read, and each of whose addresses is read and written again.
     pub has-form :
-        ((f : List ℕ) × (settled A xs ≡ accepted f)) ↔ ((m : Message) × (readMessage xs ≡ accepted m) × All Settles (m .params))
-    unfolding settled
+        ((f : List ℕ) × (settled A xs ≡ accepted f)) ↔ ((m : Message) × (readMessage xs ≡ accepted m) × All (Settles A) (m .params))
     has-form =
         let (to, from) = through-accepts (readMessage xs) (λ m. m .params) (settledParam A) (λ m. messageOctets (m .type)) in
-        let each : (m : Message) → All (Accepts (settledParam A)) (m .params) ↔ All Settles (m .params) =
-        λ m. all-iff (Accepts (settledParam A)) Settles settles (m .params) in (
-          (λ w. let (m, hm, h) = to w in (m, hm, each m .0 h)),
-          (λ (m, hm, h). from (m, hm, each m .1 h)),
+        let each : (m : Message) → All (Accepts (settledParam A)) (m .params) ↔ All (Settles A) (m .params) =
+        λ m. all-iff (Accepts (settledParam A)) (Settles A) settles (m .params) in
+        let same = settled-plain A L xs o in (
+          (λ (f, e). let (m, hm, h) = to (f, sym same ∙ e) in (m, hm, each m .0 h)),
+          (λ (m, hm, h). let (f, e) = from (m, hm, each m .1 h) in (f, same ∙ e)),
         )
 
     -- Settling refuses as reading does, or else as the first address in wire order that is not read, or not written again.
@@ -123,8 +118,10 @@ module _ (A : Alphabet) where
         → (settled A xs ≡ refused n vs)
         ↔ ((readMessage xs ≡ refused n vs)
         ⊎ ((m : Message) × (readMessage xs ≡ accepted m) × FirstRefused (settledParam A) (m .params) n vs))
-    unfolding settled
-    refusals = through-refuses (readMessage xs) (λ m. m .params) (settledParam A) (λ m. messageOctets (m .type))
+    refusals n vs =
+        let (to, from) = through-refuses (readMessage xs) (λ m. m .params) (settledParam A) (λ m. messageOctets (m .type)) n vs in
+        let same = settled-plain A L xs o in
+        ((λ e. to (sym same ∙ e)), (λ w. same ∙ from w))
 
   -- A parameter is refused where it is an address: as its reading is, or else as its writing is.
   pub param-refusals :

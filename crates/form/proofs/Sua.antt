@@ -5,17 +5,20 @@ use mathlib.Core.Bool.{Bool, true, false}
 use mathlib.Core.Logic.{_↔_}
 use mathlib.Core.List.{List, [], _∷_, _++_}
 use native.Mathlib.Omega.{arith}
-use Rattle.bcd.specs.Outcome.{Outcome, accepted, refused, pick, after, mapped, each}
+use Rattle.bcd.specs.Outcome.{Outcome, accepted, refused, pick, after, mapped, each, Octets}
 use Rattle.bcd.specs.Digits.{Alphabet, Lawful}
 use Rattle.bcd.proofs.Outcomes.{accepted-inj, mapped-inv, mapped-mapped, each-cons, each-inv}
 use Rattle.parameter.specs.Parameter.{Param, runLength, Fits}
+use Rattle.parameter.proofs.RoundTrip.{all-sized}
 use Rattle.address.specs.Address.{Address, addressIn, writeAddress, rewriteAddress}
 use Rattle.address.proofs.Rewriting.{rewritten}
 use Rattle.message.specs.declared.header.MessageType.{MessageType}
-use Rattle.message.specs.Message.{messageOctets}
+use Rattle.message.specs.Message.{Message, readMessage, messageOctets, writeMessage}
 use Rattle.message.proofs.Framing.{Framed, readOf, octetsOf}
-use Rattle.message.proofs.Messages.{suaKinds, sua-paired, messageOf, message-framed, octets-framed}
+use Rattle.message.proofs.Messages.{suaKinds, sua-paired, messageOf, message-framed, octets-framed, message-written}
 use Rattle.form.specs.Form.{isAddress, settledParam, settled, Part, raw, address, partIn, Meaning, meaning}
+use Rattle.form.proofs.Encoded.{settled-unread, settled-read}
+use Rattle.form.proofs.Forms.{rewritten-small}
 use Rattle.form.proofs.Family.{Family, Meant, norm, settledOf, meaningOf, Written, LawfulFamily}
 
 -- How a part is written.
@@ -59,9 +62,13 @@ module _ (A : Alphabet) where
   params-norm [] = refl
   params-norm (p ∷ ps) = ap₂ (λ o r. after o (λ ys. mapped (λ zs. ys ++ zs) r)) (param-norm p) (params-norm ps)
 
-  pub settled-framed : (xs : List ℕ) → settled A xs ≡ settledOf (sua A) xs
-  unfolding settled settledOf
-  settled-framed xs =
+  -- The form with nothing refused in encoding.
+  abbrev plain : List ℕ → Outcome (List ℕ)
+  plain xs = after (readMessage xs) (λ m. mapped (messageOctets (m .type)) (each (settledParam A) (m .params)))
+
+  plain-framed : (xs : List ℕ) → plain xs ≡ settledOf (sua A) xs
+  unfolding settledOf
+  plain-framed xs =
       ap (λ o. after o (λ m. mapped (messageOctets (m .type)) (each (settledParam A) (m .params)))) (message-framed xs)
       ∙ on (readOf suaKinds xs)
     where
@@ -157,3 +164,34 @@ module _ (A : Alphabet) where
 
   pub sua-lawful : Lawful A → LawfulFamily (sua A)
   sua-lawful L = record { paired = sua-paired; writes = writes L }
+
+  -- Of octets, encoding refuses nothing.
+  module _ (L : Lawful A) (xs : List ℕ) (o : Octets xs) where
+    encodes :
+        (m : Message) (ps : List Param)
+        → readMessage xs ≡ accepted m
+        → each (settledParam A) (m .params) ≡ accepted ps
+        → writeMessage (record { type = m .type; params = ps }) ≡ accepted (messageOctets (m .type) ps)
+    encodes m ps e d =
+        let (r, hr, j) = mapped-inv messageOf (readOf suaKinds xs) (sym (message-framed xs) ∙ e) in
+        let same : r .params ≡ m .params = ap (λ (m : Message). m .params) j in
+        let q : each (norm (sua A)) (r .params) ≡ accepted ps = sym (params-norm (r .params)) ∙ ap (each (settledParam A)) same ∙ d in
+        let (k, room, small) = rewritten-small (sua A) (sua-lawful L) xs r ps o hr q in
+        message-written (m .type) ps (all-sized ps (k .fits)) small
+
+    pub settled-plain : settled A xs ≡ plain xs
+    settled-plain = on (readMessage xs) refl
+      where
+        on : (r : Outcome Message) → readMessage xs ≡ r → settled A xs ≡ plain xs
+        on (refused n vs) e = settled-unread A xs n vs e ∙ rw e
+        on (accepted m) e = settled-read A xs m e ∙ go (each (settledParam A) (m .params)) refl ∙ rw e
+          where
+            go :
+                (r : Outcome (List Param))
+                → each (settledParam A) (m .params) ≡ r
+                → after r (λ ps. writeMessage (record { type = m .type; params = ps })) ≡ mapped (messageOctets (m .type)) r
+            go (refused n vs) d = refl
+            go (accepted ps) d = encodes m ps e d
+
+    pub settled-framed : settled A xs ≡ settledOf (sua A) xs
+    settled-framed = settled-plain ∙ plain-framed xs

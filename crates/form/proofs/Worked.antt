@@ -12,7 +12,7 @@ use Rattle.parameter.specs.Walk.{headed, stepAt, steps, places, parameters}
 use Rattle.address.specs.Address.{Address, titleIn, writeTitle, pieceIn, addressWith, addressIn, readAddress, indicator, pieces, subParam, writeAddress, rewriteAddress}
 use Rattle.message.specs.declared.header.MessageType.the-variants as T
 use Rattle.message.specs.Types.{fromClassType}
-use Rattle.message.specs.Message.{Message, readHeader, readMessage, messageOctets}
+use Rattle.message.specs.Message.{Message, readHeader, readMessage, messageOctets, writeMessage}
 use Rattle.form.specs.Form.{settledParam, settled}
 
 -- What is given to a call, and what it gives.
@@ -74,5 +74,5 @@ starred =
     ∷ []
 
 pub worked : All Holds starred
-unfolding settled settledParam readMessage readHeader messageOctets fromClassType parameters places steps stepAt headed twoAt runOctets paramOctets encodeParam readAddress addressIn addressWith rewriteAddress writeAddress pieceIn pieces subParam indicator titleIn writeTitle readDigits digitsIn halves writeDigits pack
+unfolding settled settledParam readMessage readHeader messageOctets writeMessage fromClassType parameters places steps stepAt headed twoAt runOctets paramOctets encodeParam readAddress addressIn addressWith rewriteAddress writeAddress pieceIn pieces subParam indicator titleIn writeTitle readDigits digitsIn halves writeDigits pack
 worked = (refl, (refl, (refl, (refl, (refl, (refl, (refl, (refl, (refl, (refl, (refl, (refl, (refl, (refl, (refl, (refl, (refl, (refl, (refl, tt)))))))))))))))))))

@@ -9,7 +9,7 @@ use Rattle.bcd.specs.Digits.{Alphabet}
 use Rattle.parameter.specs.Parameter.{Param}
 use Rattle.address.specs.Address.{Address, addressIn, rewriteAddress}
 use Rattle.message.specs.declared.header.MessageType.{MessageType}
-use Rattle.message.specs.Message.{readMessage, messageOctets}
+use Rattle.message.specs.Message.{readMessage, writeMessage}
 
 -- The tags of the source address and of the destination address (RFC 3868, 3.10.2 and 3.10.3).
 abbrev pub isAddress : ℕ → Bool
@@ -22,9 +22,13 @@ settledParam A p =
     (accepted (p ∷ []))
 
 -- The settled form: the message is read, each address in wire order is read and written again, and the message is
--- encoded. Reading's refusals, then for each address its reading's, 9, 10 (document 01, 'Order').
+-- encoded. Reading's refusals, then for each address its reading's, 9, 10 (document 01, 'Order'); of octets, encoding
+-- refuses nothing more (`form-encodes`).
 unfoldable pub settled : Alphabet → List ℕ → Outcome (List ℕ)
-settled A xs = after (readMessage xs) (λ m. mapped (messageOctets (m .type)) (each (settledParam A) (m .params)))
+settled A xs =
+    after (readMessage xs) (λ m.
+    after (each (settledParam A) (m .params)) (λ ps.
+    writeMessage (record { type = m .type; params = ps })))
 
 -- What a parameter means: its tag with its value, or with the address that its value is read as.
 pub data Part : Type 0 where

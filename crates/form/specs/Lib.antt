@@ -1,6 +1,3 @@
 pub mod Form
+pub mod HasForm
 pub mod Passes
-pub mod Entry
-pub mod Line
-pub mod Account
-pub mod Emitting

@@ -1,9 +1,4 @@
 // The settled form of a message: octets that depend on its meaning and on nothing else.
-pub mod account;
-pub mod entry;
-pub mod flat;
-pub mod line;
-
 use bcd::error::Counted;
 use bcd::error::Refusal;
 use message::header::CommonHeader;
@@ -24,15 +19,8 @@ ghost use Rattle.parameter.specs.Walk.{valued};
 ghost use Rattle.form.specs.Form.{isAddress, settledParam, settled};
 ghost use Rattle.form.specs.Passes.{settledRun, sumOf, Placeable};
 
-// A number of two numbers of 16 bits, the high one first.
-fn be32(high: u16, low: u16) -> usize
-    ensures { λ r. ⌜ r ≡ high * 65536 + low ⌝ }
-{
-    (high as usize) * 65536 + (low as usize)
-}
-
 // Whether a parameter is a source or a destination address.
-fn is_address(tag: u16) -> bool
+pub fn is_address(tag: u16) -> bool
     ensures { λ r. ⌜ r ≡ isAddress tag ⌝ }
 {
     match tag {

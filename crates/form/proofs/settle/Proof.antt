@@ -7,8 +7,9 @@ use Rattle.bcd.specs.declared.error.Counted.{Counted}
 use Rattle.bcd.specs.Outcome.{accepted, mapped, most}
 use Rattle.bcd.specs.Answers.{countedOf}
 use Rattle.bcd.specs.Digits.{builtIn}
-use Rattle.bcd.proofs.Outcomes.{deliver-too-long, deliver-passed-on, deliver-refused}
+use Rattle.bcd.proofs.Outcomes.{octets-of, deliver-too-long, deliver-passed-on, deliver-refused}
 use Rattle.parameter.specs.Parameter.{runOctets, runLength}
+use Rattle.bcd.proofs.Characters.{builtIn-lawful}
 use Rattle.message.specs.declared.header.CommonHeader.{CommonHeader}
 use Rattle.message.specs.Message.{readHeader, headerReadOf}
 use Rattle.message.proofs.Listing.{header-within, message-done}
@@ -30,19 +31,24 @@ header c = c .before .h .given .0 .0
 headed : (c : tie.After-known-told2) → readHeader (start c .args .input .now) ≡ accepted (header c)
 headed c = sym (c .before .before .before .decode .ensures) ∙ ap headerReadOf (c .before .h .given .1)
 
+octets : (c : tie.After-known-told2) (i : ℕ) → getD (start c .args .input .now) i 0 < 256
+octets c i = omega (arith, c .before .before .before .before .before .shared-slice-known .given i)
+
 -- what the parameters take
 measured : (c : tie.After-measure) (r : Counted) → c .measure .result ≡ r → countedOf r ≡ mapped runLength (settledRun builtIn (start (c .before) .args .input .now))
 measured c r e = sym (ap countedOf e) ∙ c .measure .ensures
 
 answered : (c : tie.After-measure) (r : Counted) → c .measure .result ≡ r → mapped (λ n. 8 + n) (countedOf r) ≡ mapped length (settled builtIn (start (c .before) .args .input .now))
-answered c r e = length-run builtIn (start (c .before) .args .input .now) (header (c .before)) (countedOf r) (headed (c .before)) (measured c r e)
+answered c r e =
+    let xs = start (c .before) .args .input .now in
+    length-run builtIn builtIn-lawful xs (octets-of xs (octets (c .before))) (header (c .before)) (headed (c .before)) (countedOf r)
+    (measured c r e)
 
 small : (c : tie.After-known-told4) → 8 + c .before .run .given .0 .0 ≤ most
 small c =
     let m = c .before .before .before in
     let k = m .before in
-    let o : (i : ℕ) → getD (start k .args .input .now) i 0 < 256 = λ i. omega (arith, k .before .before .before .before .before .shared-slice-known .given i) in
-    run-small (start k .args .input .now) (header k) _ o (headed k) (measured m _ (c .before .run .given .1))
+    run-small (start k .args .input .now) (header k) _ (octets k) (headed k) (measured m _ (c .before .run .given .1))
 
 decode-requires : tie.Need-decode-requires
 decode-requires c κs = search needs
@@ -124,7 +130,7 @@ returns-4 c =
     let s = start (m .before) in
     let xs = s .args .input .now in
     let out = s .args .out .now in
-    let r = run-known builtIn xs (header (m .before)) _ (headed (m .before)) (measured m _ (k .before .run .given .1)) in
+    let r = run-known builtIn builtIn-lawful xs (octets-of xs (octets (m .before))) (header (m .before)) _ (headed (m .before)) (measured m _ (k .before .run .given .1)) in
     rw (r .whole)
     (message-done (header (m .before) .«message_type») (r .octets) _ out _ _ (n .new .result) (mapped runOctets (settledRun builtIn xs))
     (ap (λ (i : ℕ). 8 + i) (r .size)) (n .before .if1 .left) (n .new .ensures) (r .written) (e .encode .ensures) (w .write-params .ensures))

@@ -7,6 +7,8 @@ use Rattle.bcd.specs.declared.error.Counted.{Counted}
 use Rattle.bcd.specs.Outcome.{accepted, mapped}
 use Rattle.bcd.specs.Answers.{countedOf}
 use Rattle.bcd.specs.Digits.{builtIn}
+use Rattle.bcd.proofs.Outcomes.{octets-of}
+use Rattle.bcd.proofs.Characters.{builtIn-lawful}
 use Rattle.message.specs.Message.{readHeader, headerReadOf}
 use Rattle.message.proofs.Listing.{header-within}
 use Rattle.form.specs.Form.{settled}
@@ -23,9 +25,15 @@ start c = c .before .before .before .before
 headed : (c : tie.After-enum-told) → readHeader (start c .args .input .now) ≡ accepted (c .enum-told .given .0 .0)
 headed c = sym (c .before .before .decode .ensures) ∙ ap headerReadOf (c .enum-told .given .1)
 
+octets : (c : tie.After-enum-told) (i : ℕ) → getD (start c .args .input .now) i 0 < 256
+octets c i = omega (arith, c .before .before .before .shared-slice-known .given i)
+
 -- the answer goes on from what the parameters take
 answered : (c : tie.After-measure) (r : Counted) → c .measure .result ≡ r → mapped (λ n. 8 + n) (countedOf r) ≡ mapped length (settled builtIn (start (c .before) .args .input .now))
-answered c r e = length-run builtIn (start (c .before) .args .input .now) (c .before .enum-told .given .0 .0) (countedOf r) (headed (c .before)) (sym (ap countedOf e) ∙ c .measure .ensures)
+answered c r e =
+    let xs = start (c .before) .args .input .now in
+    length-run builtIn builtIn-lawful xs (octets-of xs (octets (c .before))) (c .before .enum-told .given .0 .0) (headed (c .before)) (countedOf r)
+    (sym (ap countedOf e) ∙ c .measure .ensures)
 
 decode-requires : tie.Need-decode-requires
 decode-requires c κs = search needs
@@ -49,8 +57,7 @@ add-t9 : tie.Need-add-t9
 add-t9 c =
     let m = c .before .before .before in
     let s = start (m .before) in
-    let o : (i : ℕ) → getD (s .args .input .now) i 0 < 256 = λ i. omega (arith, m .before .before .before .before .shared-slice-known .given i) in
-    omega (arith, run-small (s .args .input .now) _ _ o (headed (m .before)) (sym (ap countedOf (c .before .run .given .1)) ∙ m .measure .ensures))
+    omega (arith, run-small (s .args .input .now) _ _ (octets (m .before)) (headed (m .before)) (sym (ap countedOf (c .before .run .given .1)) ∙ m .measure .ensures))
 
 returns : tie.Need-returns
 returns c =

@@ -1,0 +1,53 @@
+// The entries for other languages, on slices of octets and numbers (include/sua.h).
+pub mod account;
+pub mod flat;
+pub mod line;
+
+use account::read;
+use form::settle;
+use report::store;
+ghost use mathlib.Core.Path.{_≡_};
+ghost use Prim.Native.Nat.{_+_, _*_};
+ghost use Rattle.bcd.specs.Outcome.{deliver};
+ghost use Rattle.bcd.specs.Digits.{builtIn};
+ghost use Rattle.form.specs.Form.{settled};
+ghost use Rattle.report.specs.Report.{entered};
+ghost use Rattle.entry.specs.Account.{account};
+ghost use Rattle.entry.specs.Flat.{encodeFlat};
+
+// A number of two numbers of 16 bits, the high one first.
+fn be32(high: u16, low: u16) -> usize
+    ensures { λ r. ⌜ r ≡ high * 65536 + low ⌝ }
+{
+    (high as usize) * 65536 + (low as usize)
+}
+
+// Writes the settled form of a message. Reading's refusals, then each address's, 9, 10 in wire order, then 14.
+#[no_mangle]
+pub extern "C" fn sua_settle(input: &[u8], out: &mut [u8], report: &mut [u64]) -> u64
+    ensures { λ r. ⌜ record { number = r; buffer = now (out .exit); report = now (report .exit) } ≡ entered (deliver (settled builtIn (now (input .entry))) (now (out .entry))) (now (report .entry)) ⌝ }
+{
+    store(settle(input, out), report)
+}
+
+// Writes a flat account of a message with its addresses. Reading's refusals, then each address's in wire order, then 14.
+#[no_mangle]
+pub extern "C" fn sua_read(input: &[u8], out: &mut [u8], report: &mut [u64]) -> u64
+    ensures { λ r. ⌜ record { number = r; buffer = now (out .exit); report = now (report .exit) } ≡ entered (deliver (account builtIn (now (input .entry))) (now (out .entry))) (now (report .entry)) ⌝ }
+{
+    store(read(input, out), report)
+}
+
+// Writes the message of a class, a type and a flat list of parameters. 4, 15, 10 in order, 12, 14.
+#[no_mangle]
+pub extern "C" fn sua_encode(
+    class: u8,
+    msg_type: u8,
+    list: &[u8],
+    out: &mut [u8],
+    report: &mut [u64],
+) -> u64
+    ensures { λ r. ⌜ record { number = r; buffer = now (out .exit); report = now (report .exit) } ≡ entered (deliver (encodeFlat class «msg_type» (now (list .entry))) (now (out .entry))) (now (report .entry)) ⌝ }
+{
+    store(flat::encode(class, msg_type, list, out), report)
+}

@@ -21,3 +21,4 @@ pub mod Tabling
 pub mod GivenParts
 pub mod Encoding
 pub mod TableBack
+pub mod Standing

@@ -6,3 +6,4 @@ pub mod Given
 pub mod Parts
 pub mod Plan
 pub mod GivenParts
+pub mod Standing

@@ -1,6 +1,6 @@
 -- Demand 3 with the built-in characters, for any octets.
 use Prim.Native.Nat.{ℕ, _+_, _≤_, _<_}
-use mathlib.Core.Path.{_≡_}
+use mathlib.Core.Path.{_≡_, sym, _∙_}
 use mathlib.Core.Logic.{_↔_}
 use mathlib.Core.List.{List, [], _∷_}
 use lib.ListN.{length, drop}
@@ -9,13 +9,21 @@ use Rattle.bcd.specs.Digits.{builtIn}
 use Rattle.bcd.proofs.Outcomes.{all-drop}
 use Rattle.bcd.proofs.Characters.{builtIn-lawful}
 use Rattle.parameter.specs.Parameter.{Param, roundUp, runLength, Fits}
+use Rattle.parameter.specs.Table.{Table}
 use Rattle.parameter.proofs.Reading.{parameters-fit}
 use Rattle.address.proofs.Writable.{writes-exactly}
-use Rattle.message.specs.Message.{Message, readMessage}
+use Rattle.message.specs.Message.{Message, readMessage, writeMessage}
+use Rattle.message.specs.Standing.{ListsAs}
+use Rattle.message.proofs.Standing.{message-listed}
 use Rattle.message.proofs.Messages.{message-inv}
 use Rattle.form.specs.Form.{settled, Meaning, meaning}
 use Rattle.form.specs.HasForm.{Settles, Clean}
+use Rattle.form.specs.Standing.{AllStand}
 use Rattle.form.proofs.Settled as S
+use Rattle.form.proofs.Standing.{meaning-stands}
+
+fit : (xs : List ℕ) (m : Message) → Octets xs → readMessage xs ≡ accepted m → All Fits (m .params)
+fit xs m o h = parameters-fit (drop 8 xs) (m .params) (all-drop (λ x. x < 256) 8 xs o) (message-inv xs m h .walked)
 
 -- Two forms are equal exactly where the messages mean the same.
 pub equal :
@@ -45,6 +53,24 @@ module _ (xs f : List ℕ) (o : Octets xs) (e : settled builtIn xs ≡ accepted 
   pub form-room : (length f ≤ roundUp (length xs)) × (length f ≤ most)
   form-room = S.form-room builtIn builtIn-lawful xs f o e
 
+  -- A form is what encoding gives of the message that it is read as.
+  pub form-encodes : (m : Message) × (readMessage f ≡ accepted m) × (writeMessage m ≡ accepted f)
+  form-encodes = S.form-encodes builtIn builtIn-lawful xs f o e
+
+  -- Reading a form into any table is refused only as 13, and the records that it stores are the form's parameters.
+  pub form-listed : (m : Message) × (readMessage f ≡ accepted m) × ((t : Table) → ListsAs f m t)
+  form-listed = let (m, hm, l) = form-length in (m, hm, λ t. message-listed f m t hm)
+
+  -- Each of these is a parameter of the meaning; or an address, which reading its value into a record and any table stands
+  -- for. That is refused only as 13.
+  pub form-stands :
+      (m : Message) × (w : Meaning) × (readMessage f ≡ accepted m) × (meaning builtIn xs ≡ accepted w) × AllStand (m .params) (w .parts)
+  form-stands =
+      let (same, (w, hw)) = read-back in
+      let octets = S.form-octets builtIn builtIn-lawful xs f o e in
+      let (m, hm, stands) = meaning-stands f w (λ m hm. fit f m octets hm) hw in
+      (m, w, hm, sym same ∙ hw, stands)
+
 clean : (p : Param) → Fits p → Settles builtIn p ↔ Clean p
 clean p f = (
   (λ s t. let (a, ha, w) = s t in let (k, l) = writes-exactly (p .tag) (p .value) a (f .octets) ha .0 w in (a, ha, k, l)),
@@ -64,9 +90,6 @@ pub has-form :
     → Octets xs
     → ((f : List ℕ) × (settled builtIn xs ≡ accepted f)) ↔ ((m : Message) × (readMessage xs ≡ accepted m) × All Clean (m .params))
 has-form xs o = (
-  (λ w. let (m, hm, h) = S.has-form builtIn builtIn-lawful xs o .0 w in (m, hm, all-clean (m .params) (fit m hm) .0 h)),
-  (λ (m, hm, h). S.has-form builtIn builtIn-lawful xs o .1 (m, hm, all-clean (m .params) (fit m hm) .1 h)),
+  (λ w. let (m, hm, h) = S.has-form builtIn builtIn-lawful xs o .0 w in (m, hm, all-clean (m .params) (fit xs m o hm) .0 h)),
+  (λ (m, hm, h). S.has-form builtIn builtIn-lawful xs o .1 (m, hm, all-clean (m .params) (fit xs m o hm) .1 h)),
 )
-  where
-    fit : (m : Message) → readMessage xs ≡ accepted m → All Fits (m .params)
-    fit m h = parameters-fit (drop 8 xs) (m .params) (all-drop (λ x. x < 256) 8 xs o) (message-inv xs m h .walked)

@@ -1,3 +1,5 @@
+pub mod Tags
+pub mod Worked
 pub mod Ignored
 pub mod Encoded
 pub mod Family
@@ -5,9 +7,9 @@ pub mod Forms
 pub mod Refusals
 pub mod Sua
 pub mod Settled
+pub mod Standing
 pub mod Demand3
 pub mod Passes
 pub mod Measuring
 pub mod Placing
 pub mod Written
-pub mod Worked

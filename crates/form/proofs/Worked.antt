@@ -1,4 +1,4 @@
--- The starred worked messages of document 01, S1 to S12, checked by computation.
+-- The starred worked messages of document 01, S1 to S12, and messages with both addresses, checked by computation.
 use Prim.Native.Nat.{ℕ}
 use mathlib.Core.Path.{_≡_, refl}
 use mathlib.Core.Bool.{true}
@@ -73,6 +73,39 @@ starred =
     ∷ digitsWrite [] (accepted [])
     ∷ []
 
+-- A CLDT with two addresses, settled: the source has a title and an SSN, the destination a point code and an SSN.
+abbrev pub settledCldt : List ℕ
+settledCldt =
+    words
+    (0x01000701 ∷ 0x00000040
+    ∷ 0x01020020 ∷ 0x00010005 ∷ 0x8001000E ∷ 0x00000004 ∷ 0x03000104 ∷ 0x21030000 ∷ 0x80030008 ∷ 0x00000008
+    ∷ 0x01030018 ∷ 0x00020003 ∷ 0x80020008 ∷ 0x00012345 ∷ 0x80030008 ∷ 0x00000006 ∷ [])
+
+-- Messages that mean the same: reserved octets and bits, declared length, filler half, padding and octets behind the last
+-- parameter filled as one likes, sub-parameters in another order, an SSN that does not hold, a point code of five octets,
+-- a title with an octet more than its count. Each has that one form.
+abbrev pub unsettled : List Example
+unsettled =
+    settles settledCldt (accepted settledCldt)
+    ∷ settles
+    (words
+    (0x01FF0701 ∷ 0x00000000
+    ∷ 0x01020028 ∷ 0x0001FFFD ∷ 0x80030008 ∷ 0x00000006 ∷ 0x80030008 ∷ 0xAABBCC08 ∷ 0x8001000E ∷ 0xDDEEFF04 ∷ 0x03000104 ∷ 0x21F39999
+    ∷ 0x01030019 ∷ 0x0002FFFB ∷ 0x80030008 ∷ 0x11223306 ∷ 0x80020009 ∷ 0x00012345 ∷ 0x77CCCCCC ∷ [])
+    ++ 0xAA ∷ 0xBB ∷ [])
+    (accepted settledCldt)
+    ∷ settles
+    (words
+    (0x01070701 ∷ 0xFFFFFFFF
+    ∷ 0x01020020 ∷ 0x000100FD ∷ 0x8001000F ∷ 0x12345604 ∷ 0x03000104 ∷ 0x21A35544 ∷ 0x80030008 ∷ 0x77777708
+    ∷ 0x01030018 ∷ 0x0002000B ∷ 0x80030008 ∷ 0xFEFEFE06 ∷ 0x80020008 ∷ 0x00012345 ∷ []))
+    (accepted settledCldt)
+    ∷ []
+
 pub worked : All Holds starred
 unfolding settled settledParam readMessage readHeader messageOctets writeMessage fromClassType parameters places steps stepAt headed twoAt runOctets paramOctets encodeParam readAddress addressIn addressWith rewriteAddress writeAddress pieceIn pieces subParam indicator titleIn writeTitle readDigits digitsIn halves writeDigits pack
 worked = (refl, (refl, (refl, (refl, (refl, (refl, (refl, (refl, (refl, (refl, (refl, (refl, (refl, (refl, (refl, (refl, (refl, (refl, (refl, tt)))))))))))))))))))
+
+pub worked-addresses : All Holds unsettled
+unfolding settled settledParam readMessage readHeader messageOctets writeMessage fromClassType parameters places steps stepAt headed twoAt runOctets paramOctets encodeParam readAddress addressIn addressWith rewriteAddress writeAddress pieceIn pieces subParam indicator titleIn writeTitle readDigits digitsIn halves writeDigits pack
+worked-addresses = (refl, (refl, (refl, tt)))

@@ -23,7 +23,7 @@ settledParam A p =
 
 -- The settled form: the message is read, each address in wire order is read and written again, and the message is
 -- encoded. Reading's refusals, then for each address its reading's, 9, 10 (document 01, 'Order'); of octets, encoding
--- refuses nothing more (`form-encodes`).
+-- refuses nothing more (`has-form`).
 unfoldable pub settled : Alphabet → List ℕ → Outcome (List ℕ)
 settled A xs =
     after (readMessage xs) (λ m.

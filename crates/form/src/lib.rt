@@ -133,15 +133,15 @@ fn write_params(input: &[u8], run: usize, out: &mut [u8])
         at: CommonHeader::SIZE,
     };
     let mut at: usize = 0;
-    let mut n: usize = 0;
-    while n < input.len() {
+    let mut k: usize = 0;
+    while k < input.len() {
         match c.step(input) {
             Step::Parameter(place, next) => {
                 let start = place.start;
                 let end = start + place.length;
                 at = at + put_settled(place.tag, &input[start..end], &mut out[at..]);
                 c = next;
-                n = n + 1;
+                k = k + 1;
             }
             Step::End => {
                 return;

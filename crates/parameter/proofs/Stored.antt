@@ -2,6 +2,7 @@
 use Prim.Native.Nat.{ℕ, _+_, _≤_}
 use mathlib.Core.Path.{_≡_, refl, sym, ap, _∙_}
 use mathlib.Core.Bool.{Bool, true, false}
+use mathlib.Core.Logic.{_⊎_, inl, inr}
 use mathlib.Core.List.{List, [], _∷_, _++_, map}
 use native.Mathlib.Omega.{arith}
 use native.Mathlib.Nat.{le-min}
@@ -67,3 +68,27 @@ stored-records values ps t held n h e = go (leb (length ps) (room t)) e
       params = ap (λ (u : Table). records values u (length ps)) (ap (λ (s : Tabulated). s .table) e) ∙ table-records values ps t h;
     }
     go false e = absurd (never (sym (ap (λ (s : Tabulated). s .answer) e)))
+
+-- Places inside the values are stored, and are the records taken from the table then; or the table is too small.
+pub stored-or-small :
+    (values : List ℕ) (ps : List Place) (t : Table)
+    → All (λ (p : Place). p .start + p .length ≤ length values) ps
+    → ((tabulate (accepted ps) t .answer ≡ accepted (length ps))
+    × (records values (tabulate (accepted ps) t .table) (length ps) ≡ accepted (map (valued values) ps)))
+    ⊎ (tabulate (accepted ps) t ≡ record { answer = refused 13 (length ps ∷ []); table = t })
+unfolding tabulate
+stored-or-small values ps t h = go (leb (length ps) (room t))
+  where
+    stored : Tabulated
+    stored = record { answer = accepted (length ps); table = tableOf ps t }
+
+    small : Tabulated
+    small = record { answer = refused 13 (length ps ∷ []); table = t }
+
+    go :
+        (b : Bool)
+        → ((pick b stored small .answer ≡ accepted (length ps))
+        × (records values (pick b stored small .table) (length ps) ≡ accepted (map (valued values) ps)))
+        ⊎ (pick b stored small ≡ small)
+    go true = inl (refl, table-records values ps t h)
+    go false = inr refl

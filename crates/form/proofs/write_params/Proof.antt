@@ -1,4 +1,4 @@
--- `form::write_params` meets its contract: the loop has written the first n parameters.
+-- `form::write_params` meets its contract: the loop has written the first k parameters.
 use borrow.Author.Needs.{needs}
 use Prim.Native.Nat.{ℕ, _-_, _<_}
 use mathlib.Core.Path.{_≡_, sym, ap, _∙_}
@@ -19,10 +19,10 @@ use Rattle.form.proofs.write_params.Statement.{statement}
 use Rattle.form.proofs.write_params.Tie as tie
 
 abbrev Inv-loop : tie.InvT-loop
-Inv-loop input run out₀ c₀ at₀ n₀ out c at n = Known input run × Placed input out₀ out n (c .at) at
+Inv-loop input run out₀ c₀ at₀ k₀ out c at k = Known input run × Placed input out₀ out k (c .at) at
 
 abbrev μ-loop : tie.MeasureT-loop
-μ-loop input run out₀ c₀ at₀ n₀ out c at n = length input - n
+μ-loop input run out₀ c₀ at₀ k₀ out c at k = length input - k
 
 abbrev start : tie.After-step Inv-loop μ-loop → tie.Start Inv-loop μ-loop
 start c = c .before .before .before .before .before
@@ -48,7 +48,7 @@ here : (c : tie.After-known-told Inv-loop μ-loop)
 here c =
     let t = c .before .before .before in
     let l = t .before .before .loop in
-    turn (l .inv .0) (l .inv .1) (t .before .loop-test .taken) (start t .pre .1 .1) (octets t) _ _ (met c)
+    turn (l .inv .0) (l .inv .1) (omega (arith, t .before .loop-test .taken)) (start t .pre .1 .1) (octets t) _ _ (met c)
 
 loop-holds : tie.Need-loop-holds Inv-loop μ-loop
 loop-holds c =
@@ -111,8 +111,8 @@ add-at c =
     let w = k .before .before .before in
     omega (arith, turn-size t (placed c), w .before .before .loop .inv .1 .begun .same, start w .good)
 
-add-n : tie.Need-add-n Inv-loop μ-loop
-add-n c = search needs
+add-k : tie.Need-add-k Inv-loop μ-loop
+add-k c = search needs
 
 loop-less : tie.Need-loop-less Inv-loop μ-loop
 loop-less c = search needs
@@ -122,7 +122,7 @@ loop-again c =
     let k = c .before .before .before .before .before .before in
     let t = k .before .before .before in
     let l = t .before .before .loop in
-    (l .inv .0, placed-more (l .inv .0) (l .inv .1) (t .before .loop-test .taken) _ _ _ _ (met k) (start t .pre .1 .1) (placed c))
+    (l .inv .0, placed-more (l .inv .0) (l .inv .1) (omega (arith, t .before .loop-test .taken)) _ _ _ _ (met k) (start t .pre .1 .1) (placed c))
 
 enum-told : tie.Need-enum-told Inv-loop μ-loop
 enum-told c = search needs
@@ -134,7 +134,7 @@ returns : tie.Need-returns Inv-loop μ-loop
 returns c =
     let t = c .before .before in
     let l = t .before .before .loop in
-    placed-all (l .inv .0) (l .inv .1) (placed-end (l .inv .0) (l .inv .1) (t .before .loop-test .taken) (stepped t _ (c .enum-told .given .1)))
+    placed-all (l .inv .0) (l .inv .1) (placed-end (l .inv .0) (l .inv .1) (omega (arith, t .before .loop-test .taken)) (stepped t _ (c .enum-told .given .1)))
 
 enum-told-2 : tie.Need-enum-told-2 Inv-loop μ-loop
 enum-told-2 c = search needs
@@ -146,7 +146,7 @@ returns-2 : tie.Need-returns-2 Inv-loop μ-loop
 returns-2 c =
     let t = c .before .before in
     let l = t .before .before .loop in
-    absurd (placed-never (l .inv .0) (l .inv .1) (t .before .loop-test .taken) _ _ (stepped t _ (c .enum-told2 .given .1)))
+    absurd (placed-never (l .inv .0) (l .inv .1) (omega (arith, t .before .loop-test .taken)) _ _ (stepped t _ (c .enum-told2 .given .1)))
 
 same-length-3 : tie.Need-same-length-3 Inv-loop μ-loop
 same-length-3 c = search needs
@@ -174,7 +174,7 @@ write-params-spec =
     part-put-settled-end-2
     put-settled-requires
     add-at
-    add-n
+    add-k
     loop-less
     loop-again
     enum-told

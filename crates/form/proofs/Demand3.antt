@@ -12,7 +12,9 @@ use Rattle.bcd.proofs.Characters.{builtIn-lawful}
 use Rattle.parameter.specs.Parameter.{Param, roundUp, runLength, mostValue, Fits}
 use Rattle.parameter.proofs.Reading.{parameters-fit}
 use Rattle.address.specs.Address.{Address, addressIn}
-use Rattle.address.proofs.Writable.{Known, addressLength, writes-exactly}
+use Rattle.address.specs.Lengths.{addressLength}
+use Rattle.address.specs.Facts.{Known}
+use Rattle.address.proofs.Writable.{writes-exactly}
 use Rattle.message.specs.Message.{Message, readMessage}
 use Rattle.message.proofs.Messages.{message-inv}
 use Rattle.form.specs.Form.{isAddress, settled, Meaning, meaning}

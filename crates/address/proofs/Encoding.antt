@@ -12,9 +12,9 @@ use Rattle.bcd.specs.Outcome.{Outcome, accepted, refused, pick, after, mapped, 
 use Rattle.bcd.specs.Digits.{builtIn}
 use Rattle.bcd.proofs.Outcomes.{accepted-inj, never, after-inv, mapped-inv, demand-inv, each-inv, each-append, deliver-buffer}
 use Rattle.bcd.proofs.Writing.{Begun}
-use Rattle.parameter.specs.Parameter.{Param, four, runOctets, runLength, mostValue, encodeParam, encodeParams}
+use Rattle.parameter.specs.Parameter.{Param, four, runOctets, runLength, mostValue, encodeParam, encodeParams, Sized}
 use Rattle.parameter.specs.Table.{Table, records}
-use Rattle.parameter.proofs.RoundTrip.{run-length, run-length-append, Sized, encode-accepts, encode-inv, encodeParams-accepts}
+use Rattle.parameter.proofs.RoundTrip.{run-length, run-length-append, encode-accepts, encode-inv, encodeParams-accepts}
 use Rattle.address.specs.Address.{indicator, pieces, sized, writeAddress}
 use Rattle.address.specs.Records.{flagged, titleOf, addressOf}
 use Rattle.address.specs.Given.{encodeAddress}

@@ -8,20 +8,9 @@ use native.Mathlib.Omega.{arith}
 use lib.ListN.{length}
 use Rattle.bcd.specs.Outcome.{All, pick}
 use Rattle.bcd.proofs.Outcomes.{all-append}
-use Rattle.parameter.specs.Parameter.{Param, paddedLength}
+use Rattle.parameter.specs.Parameter.{Param}
 use Rattle.address.specs.Address.{Address, Piece, title, code, sub, other, asTitle, asCode, asSub, later, last, othersIn, bit, addressWith, indicator, present, pieces}
-use Rattle.address.proofs.Titles.{titleLength}
-
--- The octets of the sub-parameter that a piece is written as, padding included.
-abbrev pub pieceLength : Piece → ℕ
-pieceLength (title t) = paddedLength (titleLength t)
-pieceLength (code n) = paddedLength 4
-pieceLength (sub n) = paddedLength 4
-pieceLength (other p) = paddedLength (length (p .value))
-
-abbrev pub totalLength : List Piece → ℕ
-totalLength [] = 0
-totalLength (x ∷ xs) = pieceLength x + totalLength xs
+use Rattle.address.specs.Lengths.{pieceLength, totalLength}
 
 total-append : (xs ys : List Piece) → totalLength (xs ++ ys) ≡ totalLength xs + totalLength ys
 total-append [] ys = omega arith

@@ -11,12 +11,14 @@ use lib.ListN.{length, getD, drop, length-drop}
 use Rattle.bcd.specs.Outcome.{Outcome, accepted, after, each, All, Octets, most}
 use Rattle.bcd.specs.Digits.{Alphabet, Lawful}
 use Rattle.bcd.proofs.Outcomes.{accepted-inj, after-inv, mapped-inv, demand-inv, bounded-within, all-drop}
-use Rattle.parameter.specs.Parameter.{Param, two, roundUp, paddedLength, runOctets, runLength, mostValue, encodeParam, twoAt}
+use Rattle.parameter.specs.Parameter.{Param, two, roundUp, runOctets, runLength, mostValue, encodeParam, twoAt}
 use Rattle.parameter.specs.Walk.{parameters}
 use Rattle.parameter.proofs.RoundTrip.{run-length, run-octets, round-trip, encode-inv}
 use Rattle.parameter.proofs.Reading.{parameters-fit, parameters-room}
 use Rattle.address.specs.Address.{Address, Piece, pieceIn, addressWith, addressIn, readAddress, indicator, pieces, subParam, writeAddress, rewriteAddress}
-use Rattle.address.proofs.Pieces.{totalLength, pieces-all, pieces-room, indicator-small, pieces-back}
+use Rattle.address.specs.Lengths.{totalLength}
+use Rattle.address.specs.Facts.{Rewritten}
+use Rattle.address.proofs.Pieces.{pieces-all, pieces-room, indicator-small, pieces-back}
 use Rattle.address.proofs.SubParams.{Came, pieces-read, pieces-written}
 
 -- What an address that was read tells.
@@ -111,14 +113,7 @@ octets-read A a qs h e =
     let bits : indicator a % 256 ≡ indicator a = omega (arith, indicator-small a) in
     rw (le-leb 4 (length (addressOctets a qs)) (omega arith), routing, bits, le-leb (a .routing) 4 h, round-trip qs, e, pieces-back a)
 
--- An address that was read from v and written as w.
-pub record Rewritten (A : Alphabet) (v w : List ℕ) (a : Address) : Type 0 where
-  pub reads : addressIn A w ≡ accepted a
-  pub size : length w ≤ mostValue
-  pub room : paddedLength (length w) ≤ paddedLength (length v)
-  pub octets : Octets w
-
--- It is read back the same, can be a parameter's value, and takes no more room.
+-- An address that was read and written is read back the same, can be a parameter's value, and takes no more room.
 pub rewritten :
     (A : Alphabet)
     → Lawful A

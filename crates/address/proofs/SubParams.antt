@@ -13,8 +13,8 @@ use Rattle.bcd.specs.Digits.{Alphabet, Lawful}
 use Rattle.bcd.proofs.Outcomes.{accepted-inj, mapped-inv, demand-inv, each-cons, each-inv, octets-at}
 use Rattle.parameter.specs.Parameter.{Param, paddedLength, runLength, Fits, twoAt, four, fourIn}
 use Rattle.address.specs.Address.{Title, titleIn, writeTitle, Piece, title, code, sub, other, fourOctets, pieceIn, subParam}
+use Rattle.address.specs.Lengths.{pieceLength, totalLength}
 use Rattle.address.proofs.Titles.{title-inv, title-digits, title-room, title-rewritten}
-use Rattle.address.proofs.Pieces.{pieceLength, totalLength}
 
 -- The piece that a sub-parameter is.
 pub data PieceOf (A : Alphabet) (p : Param) : Piece → Type 0 where

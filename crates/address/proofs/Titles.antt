@@ -14,6 +14,8 @@ use Rattle.bcd.proofs.Reading.{digits-length}
 use Rattle.bcd.proofs.Writable.{write-inv}
 use Rattle.bcd.proofs.Digits.{read-at-most, read-written-read}
 use Rattle.address.specs.Address.{Title, titleIn, readTitle, titleOctets, writeTitle}
+use Rattle.address.specs.Lengths.{titleLength}
+use Rattle.address.specs.Facts.{RewrittenTitle}
 
 -- What a title that was read tells.
 pub record HasTitle (A : Alphabet) (v : List ℕ) (t : Title) : Type 0 where
@@ -30,10 +32,6 @@ title-inv A v t e =
     let (long, same) = demand-inv (leb 8 (length v)) _ _ _ e in
     subst (HasTitle A v) (accepted-inj same)
     (record { long = leb-true _ _ long; gti = refl; tt = refl; np = refl; noa = refl; digits = refl })
-
--- How many octets a title is written as.
-abbrev pub titleLength : Title → ℕ
-titleLength t = 8 + (length (t .digits) + 1) / 2
 
 -- A title that was read has at most 255 digits, and its octets were there.
 pub title-digits : (A : Alphabet) (v : List ℕ) (t : Title) → Octets v → HasTitle A v t → length (t .digits) ≤ 255
@@ -58,14 +56,7 @@ digit-octets A L cs os e =
     small [] h = tt
     small (c ∷ cs) h = (omega (arith, h .0), small cs (h .1))
 
--- A title that was read from v and written as w.
-pub record RewrittenTitle (A : Alphabet) (v w : List ℕ) (t : Title) : Type 0 where
-  pub reads : titleIn A w ≡ accepted t
-  pub size : length w ≡ titleLength t
-  pub room : length w ≤ length v
-  pub octets : Octets w
-
--- It is read back the same, and takes no more octets.
+-- A title that was read and written is read back the same, and takes no more octets.
 pub title-rewritten :
     (A : Alphabet)
     → Lawful A

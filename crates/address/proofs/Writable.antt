@@ -10,7 +10,7 @@ use borrow.Author.Tests.{le-leb, lt-leb, eqb-true, eqb-false}
 use lib.Dec.{eqb}
 use lib.ListN.{length, getD, take, drop}
 use Rattle.bcd.specs.Outcome.{accepted, refused, mapped, each, All, Octets, most, fit64}
-use Rattle.bcd.specs.Digits.{Alphabet, Lawful, halves, builtIn, digitsIn, writeDigits}
+use Rattle.bcd.specs.Digits.{Alphabet, Lawful, halves, builtIn, digitsIn, writeDigits, KnownDigits}
 use Rattle.bcd.proofs.Outcomes.{never, each-cons, all-take, all-drop, all-append, octets-at}
 use Rattle.bcd.proofs.Halves.{Nibbles, halves-nibbles}
 use Rattle.bcd.proofs.Characters.{builtIn-lawful, builtIn-written}
@@ -19,18 +19,11 @@ use Rattle.bcd.proofs.Digits.{read-at-most, read-written}
 use Rattle.parameter.specs.Parameter.{Param, mostValue}
 use Rattle.parameter.proofs.RoundTrip.{all-sized, encode-accepts}
 use Rattle.address.specs.Address.{Title, titleIn, titleOctets, writeTitle, Address, Piece, title, code, sub, other, asTitle, addressIn, present, pieces, subParam, sized, writeAddress}
+use Rattle.address.specs.Lengths.{addressLength}
+use Rattle.address.specs.Facts.{Known}
 use Rattle.address.proofs.Titles.{HasTitle, title-inv}
-use Rattle.address.proofs.Pieces.{totalLength}
 use Rattle.address.proofs.SubParams.{PieceOf, isTitle, Came, pieces-written}
 use Rattle.address.proofs.Rewriting.{readable, addressOctets, octets-length, written-inv}
-
--- No digit is ?, which is read and never written.
-abbrev pub KnownDigits : List ℕ → Type 0
-KnownDigits = All (λ (c : ℕ). c ≡ 0x3F → ⊥)
-
-abbrev pub Known : Option Title → Type 0
-Known none = Unit {0}
-Known (some t) = KnownDigits (t .digits)
 
 -- Characters of half octets: no ? among them, or writing is refused at the first.
 known-or-not : (hs : List ℕ) → Nibbles hs → KnownDigits (map (builtIn .char) hs) ⊎ (nibbles builtIn (map (builtIn .char) hs) ≡ refused 9 (0x3F ∷ []))
@@ -91,10 +84,6 @@ pieces-write (x ∷ xs) cs ks =
     let (us, hu) = piece-writes x (cs .0) (ks .0) in
     let (vs, hv) = pieces-write xs (cs .1) (ks .1) in
     (us ++ vs, each-cons (subParam builtIn) x xs us vs hu hv)
-
--- How many octets an address is written as.
-abbrev pub addressLength : Address → ℕ
-addressLength a = 4 + totalLength (pieces a)
 
 module _ (A : Alphabet) (L : Lawful A) (tag : ℕ) (v : List ℕ) (a : Address) (o : Octets v) (e : addressIn A v ≡ accepted a) where
   subs-length : (qs : List Param) → each (subParam A) (pieces a) ≡ accepted qs → length (addressOctets a qs) ≡ addressLength a

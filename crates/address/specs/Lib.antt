@@ -3,6 +3,8 @@ pub mod Records
 pub mod Titles
 pub mod Listing
 pub mod Given
+pub mod Lengths
+pub mod Facts
 pub mod Parts
 pub mod Plan
 pub mod GivenParts

@@ -8,7 +8,7 @@ use native.Mathlib.Omega.{arith}
 use lib.ListN.{length, getD, take, length-map}
 use lib.Seq.{take-at, ext-getD}
 use Rattle.bcd.specs.Outcome.{Outcome, accepted, refused, mapped, each, All, Octets}
-use Rattle.bcd.specs.Digits.{Alphabet, Lawful, halves, pack, nibble, written, fold, builtIn, digitsIn, writeDigits}
+use Rattle.bcd.specs.Digits.{Alphabet, Lawful, halves, pack, nibble, written, fold, builtIn, digitsIn, writeDigits, SameCharacters, KnownDigits}
 use Rattle.bcd.proofs.Outcomes.{accepted-inj, all-take}
 use Rattle.bcd.proofs.Halves.{Nibbles, halves-nibbles, halves-pack, filler}
 use Rattle.bcd.proofs.Characters.{builtIn-lawful, builtIn-written, builtIn-distinct, half-fold, char-half, fold-written}
@@ -70,14 +70,8 @@ module _ (A : Alphabet) (L : Lawful A) where
       written-read (λ c. c) (map (A .char) hs) os (chars-read hs (all-take (λ (h : ℕ). h < 16) count (halves xs) (halves-nibbles xs o))) e
       ∙ map-id (map (A .char) hs)
 
--- Two octet strings give the same digits exactly when they give as many, and at each place their half octets map to the
--- same character.
-abbrev pub SameCharacters : Alphabet → List ℕ → List ℕ → (count : ℕ) → Type 0
-SameCharacters A xs ys count =
-    (min count (2 * length xs) ≡ min count (2 * length ys))
-    × ((i : ℕ) → i < min count (2 * length xs) → A .char (getD (halves xs) i 0) ≡ A .char (getD (halves ys) i 0))
-
 module _ (A : Alphabet) where
+  -- Two octet strings give the same digits exactly when their half octets read as the same characters.
   pub same-digits : (xs ys : List ℕ) (count : ℕ) → (digitsIn A xs count ≡ digitsIn A ys count) ↔ SameCharacters A xs ys count
   same-digits xs ys count = (to, from)
     where
@@ -112,14 +106,14 @@ pub read-written :
     (xs : List ℕ) (count : ℕ)
     → Octets xs
     → count ≤ 255
-    → All (λ (c : ℕ). c ≡ 0x3F → ⊥) (digitsIn builtIn xs count)
+    → KnownDigits (digitsIn builtIn xs count)
     → writeDigits builtIn (digitsIn builtIn xs count) ≡ accepted (pack (take count (halves xs)))
 unfolding digitsIn
 read-written xs count o h q =
     all-good builtIn (digitsIn builtIn xs count) (take count (halves xs)) (read-at-most builtIn xs count h)
     (nibbles-back builtIn (take count (halves xs)) (back (take count (halves xs)) (all-take (λ (h : ℕ). h < 16) count (halves xs) (halves-nibbles xs o)) q))
   where
-    back : (hs : List ℕ) → Nibbles hs → All (λ (c : ℕ). c ≡ 0x3F → ⊥) (map (builtIn .char) hs) → All (Back builtIn) hs
+    back : (hs : List ℕ) → Nibbles hs → KnownDigits (map (builtIn .char) hs) → All (Back builtIn) hs
     back [] n q = tt
     back (h ∷ hs) n q = (builtIn-written h (n .0) (q .0), back hs (n .1) (q .1))
 

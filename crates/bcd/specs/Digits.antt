@@ -1,12 +1,12 @@
 -- The digits of a global title (RFC 3868, 3.10.2.3; coded as ITU-T Q.713, 3.4.2.3.1, but for document 01, module 1).
-use Prim.Native.Nat.{ℕ, suc, _+_, _*_, _/_, _%_, _<_}
+use Prim.Native.Nat.{ℕ, suc, _+_, _*_, _/_, _%_, _<_, min}
 use mathlib.Core.Path.{_≡_}
 use mathlib.Core.Bool.{_&&_}
 use mathlib.Core.Option.{Option, none, some, Option·map, Option·getD}
 use mathlib.Core.List.{List, [], _∷_, map}
 use lib.ListN.{length, getD, take}
 use lib.Dec.{leb, eqb}
-use Rattle.bcd.specs.Outcome.{Outcome, accepted, refused, pick, demand, mapped, each, bounded}
+use Rattle.bcd.specs.Outcome.{Outcome, accepted, refused, pick, demand, mapped, each, All, bounded}
 
 -- The half octets of an octet string, the low half of each octet first (RFC 3868, 3.10.2.3).
 unfoldable pub halves : List ℕ → List ℕ
@@ -63,6 +63,16 @@ written c (some h) = accepted (h ∷ [])
 -- Writing digits refuses 11, then 9 at the first bad one (document 01, 'Order').
 unfoldable pub writeDigits : Alphabet → List ℕ → Outcome (List ℕ)
 writeDigits A cs = demand (leb (length cs) 255) 11 (length cs ∷ []) (mapped pack (each (λ c. written c (A .half c)) cs))
+
+-- No digit is ?, which is read and never written (document 01, module 1).
+abbrev pub KnownDigits : List ℕ → Type 0
+KnownDigits = All (λ (c : ℕ). c ≡ 0x3F → ⊥)
+
+-- Two octet strings give as many digits for a count, and at each place their half octets read as the same character.
+abbrev pub SameCharacters : Alphabet → List ℕ → List ℕ → (count : ℕ) → Type 0
+SameCharacters A xs ys count =
+    (min count (2 * length xs) ≡ min count (2 * length ys))
+    × ((i : ℕ) → i < min count (2 * length xs) → A .char (getD (halves xs) i 0) ≡ A .char (getD (halves ys) i 0))
 
 -- A character's half octet, or 16 where it has none: what a function of the code answers.
 abbrev pub nibble : Alphabet → ℕ → ℕ

@@ -1,7 +1,6 @@
 pub mod Tags
 pub mod Worked
-pub mod Ignored
-pub mod Encoded
+pub mod Settling
 pub mod Family
 pub mod Forms
 pub mod Refusals

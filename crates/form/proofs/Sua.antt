@@ -17,7 +17,7 @@ use Rattle.message.specs.Message.{Message, readMessage, messageOctets, writeMes
 use Rattle.message.proofs.Framing.{Framed, readOf, octetsOf}
 use Rattle.message.proofs.Messages.{suaKinds, sua-paired, messageOf, message-framed, octets-framed, message-written}
 use Rattle.form.specs.Form.{isAddress, settledParam, settled, Part, raw, address, partIn, Meaning, meaning}
-use Rattle.form.proofs.Encoded.{settled-unread, settled-read}
+use Rattle.form.proofs.Settling.{settled-unread, settled-read}
 use Rattle.form.proofs.Forms.{rewritten-small}
 use Rattle.form.proofs.Family.{Family, Meant, norm, settledOf, meaningOf, Written, LawfulFamily}
 

@@ -9,7 +9,7 @@ use Rattle.bcd.specs.Digits.{Alphabet}
 use Rattle.parameter.specs.Parameter.{Param}
 use Rattle.address.specs.Address.{Address, addressIn, rewriteAddress}
 use Rattle.message.specs.declared.header.MessageType.{MessageType}
-use Rattle.message.specs.Message.{readMessage, writeMessage}
+use Rattle.message.specs.Message.{message, readMessage, writeMessage}
 
 -- The tags of the source address and of the destination address (RFC 3868, 3.10.2 and 3.10.3).
 abbrev pub isAddress : ℕ → Bool
@@ -28,7 +28,7 @@ unfoldable pub settled : Alphabet → List ℕ → Outcome (List ℕ)
 settled A xs =
     after (readMessage xs) (λ m.
     after (each (settledParam A) (m .params)) (λ ps.
-    writeMessage (record { type = m .type; params = ps })))
+    writeMessage (message (m .type) ps)))
 
 -- What a parameter means: its tag with its value, or with the address that its value is read as.
 pub data Part : Type 0 where

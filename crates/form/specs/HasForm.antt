@@ -7,7 +7,8 @@ use Rattle.bcd.specs.Outcome.{Outcome, accepted, refused, each}
 use Rattle.bcd.specs.Digits.{Alphabet, builtIn}
 use Rattle.parameter.specs.Parameter.{Param, mostValue}
 use Rattle.address.specs.Address.{Address, addressIn, writeAddress}
-use Rattle.address.proofs.Writable.{Known, addressLength}
+use Rattle.address.specs.Facts.{Known}
+use Rattle.address.specs.Lengths.{addressLength}
 use Rattle.form.specs.Form.{isAddress}
 
 -- A parameter can be settled unless it is an address that is not read, or not written again.

@@ -1,3 +1,4 @@
+pub mod Ignored
 pub mod Types
 pub mod Headers
 pub mod Framing

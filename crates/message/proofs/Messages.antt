@@ -9,10 +9,10 @@ use lib.Dec.{leb, eqb}
 use lib.ListN.{length, getD, drop}
 use Rattle.bcd.specs.Outcome.{Outcome, accepted, refused, after, demand, mapped, each, All, Octets, most}
 use Rattle.bcd.proofs.Outcomes.{accepted-inj, after-inv, mapped-inv, mapped-mapped, demand-inv}
-use Rattle.parameter.specs.Parameter.{Param, runLength, encodeParam, Fits, fourIn}
+use Rattle.parameter.specs.Parameter.{Param, runLength, encodeParam, Sized, Fits, fourIn}
 use Rattle.parameter.specs.Walk.{places, valued, parameters}
 use Rattle.parameter.proofs.Structure.{places-parameters}
-use Rattle.parameter.proofs.RoundTrip.{Sized, encode-accepts, encode-inv}
+use Rattle.parameter.proofs.RoundTrip.{encode-accepts, encode-inv}
 use Rattle.message.specs.declared.header.MessageType.{MessageType}
 use Rattle.message.specs.declared.header.CommonHeader.{CommonHeader}
 use Rattle.message.specs.Types.{classOf, typeOf, fromClassType}
@@ -128,10 +128,3 @@ places-values xs = on (readHeader xs)
         ≡ mapped (λ (m : Message). m .params) (after o (λ h. mapped (λ ps. record { type = h .«message_type»; params = ps }) (parameters (drop 8 xs))))
     on (accepted h) = places-parameters xs 8 ∙ same (h .«message_type») (parameters (drop 8 xs))
     on (refused n vs) = refl
-
--- The reserved octet and the message length are ignored.
-pub reserved-ignored :
-    (v r s c t a b d e i j k l : ℕ) (rest : List ℕ)
-    → readMessage (v ∷ r ∷ c ∷ t ∷ a ∷ b ∷ d ∷ e ∷ rest) ≡ readMessage (v ∷ s ∷ c ∷ t ∷ i ∷ j ∷ k ∷ l ∷ rest)
-unfolding readOf
-reserved-ignored v r s c t a b d e i j k l rest = message-framed _ ∙ sym (message-framed (v ∷ s ∷ c ∷ t ∷ i ∷ j ∷ k ∷ l ∷ rest))

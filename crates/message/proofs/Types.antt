@@ -12,7 +12,7 @@ use Rattle.bcd.specs.Outcome.{Outcome, accepted, refused, pick}
 use Rattle.bcd.proofs.Outcomes.{accepted-inj, never, le-or-lt}
 use Rattle.message.specs.declared.header.MessageType.{MessageType}
 use Rattle.message.specs.declared.header.MessageType.the-variants as T
-use Rattle.message.specs.Types.{first, classOctet, messageClasses, fromOctet, classOf, typeOf, messageTypes, fromClassType}
+use Rattle.message.specs.Types.{first, classOctet, messageClasses, fromOctet, classOf, typeOf, messageTypes, fromClassType, known, sumBelow, knownPairs}
 
 both : (a b : Bool) → a && b ≡ true → (a ≡ true) × (b ≡ true)
 both true b e = (refl, e)
@@ -192,19 +192,6 @@ other-octet octet h =
     first-none (λ c. eqb octet (classOctet c)) (λ c. oneOf classOctets (classOctet c)) messageClasses (refused 3 (octet ∷ []))
     (λ c k e. apart classOctets octet h (rw (← eqb-true octet (classOctet c) e) at k)) refl
 
--- There are 35: one for each known pair among all pairs of octets. Classes above 9 and types above 11 have none, and the
--- others are counted by computation.
-abbrev pub known : Outcome MessageType → ℕ
-known (accepted m) = 1
-known (refused n vs) = 0
-
-abbrev pub sumBelow : ℕ → (ℕ → ℕ) → ℕ
-sumBelow zero f = 0
-sumBelow (suc n) f = f n + sumBelow n f
-
-abbrev pub knownPairs : (classes types : ℕ) → ℕ
-knownPairs cs ts = sumBelow cs (λ c. sumBelow ts (λ t. known (fromClassType c t)))
-
 sum-same : (n : ℕ) (f g : ℕ → ℕ) → ((i : ℕ) → f i ≡ g i) → sumBelow n f ≡ sumBelow n g
 sum-same zero f g e = refl
 sum-same (suc n) f g e = ap₂ _+_ (e n) (sum-same n f g e)
@@ -223,6 +210,8 @@ high-type c t h = rw (unknown-pair c t (λ m. leb (typeOf m) 11) (λ m k ec et. 
 sum-none : (n : ℕ) (f : ℕ → ℕ) → ((i : ℕ) → f i ≡ 0) → sumBelow n f ≡ 0
 sum-none n f e = sum-cut n 0 f (omega arith) (λ i h. e i)
 
+-- There are 35: one for each known pair among all pairs of octets. Classes above 9 and types above 11 have none, and the
+-- others are counted by computation.
 pub thirty-five : knownPairs 256 256 ≡ 35
 unfolding fromClassType
 thirty-five =

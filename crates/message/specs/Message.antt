@@ -34,13 +34,18 @@ readHeader xs =
 unfoldable pub writeHeader : CommonHeader → Outcome (List ℕ)
 writeHeader h = accepted (headerOctets h)
 
+-- A message is its type and its parameters, in wire order (document 01, module 5).
 pub record Message : Type 0 where
   pub type : MessageType
   pub params : List Param
 
+-- The message of a type and parameters.
+abbrev pub message : MessageType → List Param → Message
+message type params = record { type = type; params = params }
+
 -- Reading a message: its header, whose length is ignored, then its parameters (document 01, 'Records on the wire').
 unfoldable pub readMessage : List ℕ → Outcome Message
-readMessage xs = after (readHeader xs) (λ h. mapped (λ ps. record { type = h .«message_type»; params = ps }) (parameters (drop 8 xs)))
+readMessage xs = after (readHeader xs) (λ h. mapped (message (h .«message_type»)) (parameters (drop 8 xs)))
 
 -- The places of a message's parameters, counted from its first octet.
 unfoldable pub messagePlaces : List ℕ → Outcome (List Place)

@@ -1,5 +1,5 @@
 -- Message classes and message types (RFC 3868, 3.1.2 and 3.1.3).
-use Prim.Native.Nat.{ℕ}
+use Prim.Native.Nat.{ℕ, zero, suc, _+_}
 use mathlib.Core.Bool.{Bool, _&&_}
 use mathlib.Core.List.{List, [], _∷_}
 use lib.Dec.{eqb}
@@ -104,3 +104,17 @@ classReadOf (CR.Refused r) = refusalOf r
 abbrev pub typeReadOf : TypeRead → Outcome MessageType
 typeReadOf (TR.Type m) = accepted m
 typeReadOf (TR.Refused r) = refusalOf r
+
+-- 1 for a pair that is known, else 0.
+abbrev pub known : Outcome MessageType → ℕ
+known (accepted m) = 1
+known (refused n vs) = 0
+
+-- f of each number below n, added up.
+abbrev pub sumBelow : (n : ℕ) → (ℕ → ℕ) → ℕ
+sumBelow zero f = 0
+sumBelow (suc n) f = f n + sumBelow n f
+
+-- How many pairs of a class and a type below these numbers are known.
+abbrev pub knownPairs : (classes types : ℕ) → ℕ
+knownPairs cs ts = sumBelow cs (λ c. sumBelow ts (λ t. known (fromClassType c t)))

@@ -11,16 +11,9 @@ use Rattle.bcd.specs.Outcome.{accepted, mapped}
 use Rattle.bcd.proofs.Outcomes.{le-or-lt}
 use Rattle.parameter.specs.Parameter.{Param, two, paddedLength}
 use Rattle.parameter.specs.Walk.{steps, parameters}
+use Rattle.parameter.specs.Padding.{unpadded, padding, Holds, tail, last, next}
 use Rattle.parameter.proofs.Walking.{step-end}
 use Rattle.parameter.proofs.Structure.{walk, places-steps, walk-enough}
-
--- A parameter's octets without the padding.
-abbrev pub unpadded : Param → List ℕ
-unpadded p = two (p .tag) ++ two (4 + length (p .value)) ++ p .value
-
--- How many octets of padding follow it.
-abbrev pub padding : Param → ℕ
-padding p = paddedLength (length (p .value)) - (4 + length (p .value))
 
 two-joined : (n : ℕ) → n / 256 * 256 + n % 256 ≡ n
 two-joined n = omega arith
@@ -49,18 +42,7 @@ pub parameters-end : (os : List ℕ) → length os < 4 → parameters os ≡ acc
 unfolding parameters steps
 parameters-end os h = rw (places-steps 1 os 0 (omega arith), step-end os 0 (omega arith))
 
--- Octets that hold a run of parameters, with any octets as padding: the last padding may be cut short or missing, and
--- where it is whole, under four octets may follow.
-pub data Holds : List Param → List ℕ → Type 0 where
-  tail : (os : List ℕ) → length os < 4 → Holds [] os
-  last : (p : Param) (pad : List ℕ) → length pad ≤ padding p → Holds (p ∷ []) (unpadded p ++ pad)
-  next :
-      (p : Param) (pad : List ℕ) {ps : List Param} {os : List ℕ}
-      → length pad ≡ padding p
-      → Holds ps os
-      → Holds (p ∷ ps) (unpadded p ++ (pad ++ os))
-
--- Such octets read as that run.
+-- Octets that hold a run read as that run.
 pub padding-ignored : {ps : List Param} {os : List ℕ} → Holds ps os → parameters os ≡ accepted ps
 padding-ignored (tail os h) = parameters-end os h
 padding-ignored (last p pad h) = parameters-next p pad ∙ rw (drop-of-length-le pad h, parameters-end [] (omega arith))

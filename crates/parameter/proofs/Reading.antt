@@ -7,12 +7,14 @@ use borrow.Author.Tests.{leb-true}
 use lib.Dec.{leb}
 use lib.ListN.{length, take, drop, take-append-drop, length-take, length-drop}
 use lib.Seq.{length-take-le, drop-drop}
-use Rattle.bcd.specs.Outcome.{Outcome, accepted, each, All, Octets, most}
+use Rattle.bcd.specs.Outcome.{Outcome, accepted, All, Octets, most}
 use Rattle.bcd.proofs.Outcomes.{accepted-inj, mapped-inv, demand-inv, all-take, all-drop}
-use Rattle.parameter.specs.Parameter.{Param, two, roundUp, paddedLength, runOctets, runLength, encodeParam, encodeParams, Fits}
+use Rattle.parameter.specs.Parameter.{Param, two, roundUp, paddedLength, runOctets, runLength, encodeParams, Fits}
 use Rattle.parameter.specs.Walk.{parameters}
+use Rattle.parameter.specs.Padding.{unpadded, padding, Holds, tail}
+use Rattle.parameter.specs.Facts.{Rewritten}
 use Rattle.parameter.proofs.Structure.{walk, parameters-walk}
-use Rattle.parameter.proofs.Padding.{unpadded, padding, Holds, tail, holds-front}
+use Rattle.parameter.proofs.Padding.{holds-front}
 use Rattle.parameter.proofs.RoundTrip.{run-length, round-trip, all-sized, encode-accepts, encodeParams-accepts}
 
 -- P stays with one more parameter in front: a tag, a length, n octets of value, and what follows the padding.
@@ -84,12 +86,7 @@ parameters-hold xs ps o e = parameters-induct (λ xs ps. Octets xs → Holds ps 
         ap₂ (λ t l. t ++ l ++ (take n rest ++ drop n rest)) tag len ∙ ap (λ r. a ∷ b ∷ c ∷ d ∷ r) (take-append-drop n rest) in
         subst (Holds (p ∷ ps)) same (holds-front p ps (drop n rest) k)
 
--- What was read can be written, takes at most the octets read, rounded up to a multiple of 4, and reads back the same.
-pub record Rewritten (xs : List ℕ) (ps : List Param) : Type 0 where
-  pub written : each encodeParam ps ≡ accepted (runOctets ps)
-  pub room : length (runOctets ps) ≤ roundUp (length xs)
-  pub again : parameters (runOctets ps) ≡ accepted ps
-
+-- What was read can be written, is no longer than it was, rounded up to a multiple of 4, and reads back the same.
 pub reread : (xs : List ℕ) (ps : List Param) → Octets xs → parameters xs ≡ accepted ps → Rewritten xs ps
 reread xs ps o e = record {
   written = encode-accepts ps (all-sized ps (parameters-fit xs ps o e));

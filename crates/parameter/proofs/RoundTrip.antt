@@ -8,9 +8,10 @@ use lib.Dec.{leb}
 use lib.ListN.{length, replicate, length-append, length-replicate}
 use Rattle.bcd.specs.Outcome.{accepted, each, All, Octets, most}
 use Rattle.bcd.proofs.Outcomes.{accepted-inj, after-inv, demand-inv, each-cons, each-inv, all-append, all-replicate}
-use Rattle.parameter.specs.Parameter.{Param, paddedLength, paramOctets, runOctets, runLength, mostValue, encodeParam, encodeParams, Fits}
+use Rattle.parameter.specs.Parameter.{Param, paddedLength, paramOctets, runOctets, runLength, mostValue, encodeParam, encodeParams, Sized, Fits}
 use Rattle.parameter.specs.Walk.{parameters}
-use Rattle.parameter.proofs.Padding.{padding, Holds, tail, next, padding-ignored}
+use Rattle.parameter.specs.Padding.{padding, Holds, tail, next}
+use Rattle.parameter.proofs.Padding.{padding-ignored}
 
 pub octets-length : (p : Param) → length (paramOctets p) ≡ paddedLength (length (p .value))
 unfolding paramOctets
@@ -52,10 +53,6 @@ run-holds (p ∷ ps) = rw append-assoc (next p (replicate (padding p) 0) (length
 -- Whatever was written reads back. It need not fit: that what is written is octets is `run-octets`.
 pub round-trip : (ps : List Param) → parameters (runOctets ps) ≡ accepted ps
 round-trip ps = padding-ignored (run-holds ps)
-
--- A value that a length of 16 bits can tell.
-abbrev pub Sized : Param → Type 0
-Sized p = length (p .value) ≤ mostValue
 
 pub all-sized : (ps : List Param) → All Fits ps → All Sized ps
 all-sized [] fs = tt

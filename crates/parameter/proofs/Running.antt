@@ -10,12 +10,12 @@ use borrow.Rule.Slice.PartMut.{midOf, putMid}
 use Rattle.bcd.specs.Outcome.{Outcome, accepted, refused, after, mapped, each, most, fit64, deliver}
 use Rattle.bcd.proofs.Outcomes.{accepted-inj, all-at, never, each-more, each-stopped, each-front, mapped-inv, after-inv, deliver-refused}
 use Rattle.bcd.proofs.Writing.{Begun, untouched, extend, delivered}
-use Rattle.parameter.specs.Parameter.{Param, paddedLength, paramOctets, mostValue, encodeParam, encodeParams, writable}
+use Rattle.parameter.specs.Parameter.{Param, paddedLength, paramOctets, mostValue, encodeParam, encodeParams, writable, Sized}
 use Rattle.parameter.specs.Walk.{valued}
 use Rattle.parameter.specs.Table.{records}
 use Rattle.parameter.proofs.Records
 use Rattle.parameter.proofs.Records.{noParam, firstRows, Held, held-length, held-inside, held-param, held-value}
-use Rattle.parameter.proofs.RoundTrip.{octets-length, Sized, encode-inv}
+use Rattle.parameter.proofs.RoundTrip.{octets-length, encode-inv}
 use Rattle.parameter.proofs.Encoding.{encode-within, encode-beyond}
 
 -- the first i parameters are measured

@@ -14,6 +14,7 @@ use Rattle.bcd.proofs.Outcomes.{accepted-inj, never, each-cons}
 use Rattle.parameter.specs.declared.Place.{Place}
 use Rattle.parameter.specs.Walk.{valued}
 use Rattle.parameter.specs.Table.{Table, Tabulated, room, over, tabulate, rows, recordIn, records}
+use Rattle.parameter.specs.Facts.{Stored}
 use Rattle.parameter.proofs.Filling.{tagOf, startOf, lengthOf}
 use Rattle.parameter.proofs.Records.{record-inside}
 
@@ -46,11 +47,7 @@ table-records values ps t h =
     (le-min (over-long (map startOf ps) (t .starts) _ (length-map ps startOf)) (over-long (map lengthOf ps) (t .lengths) _ (length-map ps lengthOf))) in
     rw (le-leb (length ps) (room (tableOf ps t)) few, rows-back ps _ _ _) (each-inside values ps h)
 
--- How many there are, and their parameters.
-pub record Stored (values : List ℕ) (ps : List Place) (held : Table) (n : ℕ) : Type 0 where
-  pub count : n ≡ length ps
-  pub params : records values held (length ps) ≡ accepted (map (valued values) ps)
-
+-- Places that lie inside the values, stored in a table, are the records that a writer takes from it.
 pub stored-records :
     (values : List ℕ) (ps : List Place) (t held : Table) (n : ℕ)
     → All (λ (p : Place). p .start + p .length ≤ length values) ps

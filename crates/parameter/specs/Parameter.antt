@@ -83,6 +83,10 @@ writable os = demand (leb (length os) most) 12 (fit64 (length os) ∷ []) (accep
 unfoldable pub encodeParams : List Param → Outcome (List ℕ)
 encodeParams ps = after (each encodeParam ps) writable
 
+-- A value that a length of 16 bits can tell.
+abbrev pub Sized : Param → Type 0
+Sized p = length (p .value) ≤ mostValue
+
 -- A parameter that the wire can carry: a 16-bit tag, and octets that a 16-bit length can tell.
 pub record Fits (p : Param) : Type 0 where
   pub tag : p .tag < 65536

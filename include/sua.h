@@ -1,5 +1,5 @@
 /*
- * The entries of the SUA codec (crates/form/src/entry.rt) for C. `rt staticlib form` writes the library.
+ * The entries of the SUA codec (crates/entry/src/lib.rt) for C. `rt staticlib entry` writes the library.
  *
  * A lent slice is a pointer and the number of its elements. The pointer is never null, and slices of one call do not
  * overlap. Each entry is defined for every contents and every length of its slices.

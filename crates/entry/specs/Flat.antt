@@ -8,7 +8,7 @@ use Rattle.parameter.specs.declared.Place.{Place}
 use Rattle.parameter.specs.Parameter.{Param, twoAt}
 use Rattle.parameter.specs.Walk.{Walked, ended, found, onward, valued}
 use Rattle.message.specs.Types.{fromClassType}
-use Rattle.message.specs.Message.{writeMessage}
+use Rattle.message.specs.Message.{message, writeMessage}
 
 -- The 32-bit number at a position, the high octet first.
 abbrev pub fourAt : List ℕ → ℕ → ℕ
@@ -35,4 +35,4 @@ flatList xs = mapped (map (valued xs)) (flatSteps (length xs) xs 0)
 
 -- The message of a class, a type and a flat list: 4, 15, 10 in order, 12.
 unfoldable pub encodeFlat : (class type : ℕ) → List ℕ → Outcome (List ℕ)
-encodeFlat class type list = after (fromClassType class type) (λ t. after (flatList list) (λ ps. writeMessage (record { type = t; params = ps })))
+encodeFlat class type list = after (fromClassType class type) (λ t. after (flatList list) (λ ps. writeMessage (message t ps)))

@@ -19,7 +19,7 @@ ghost use mathlib.Core.Path.{_≡_};
 ghost use mathlib.Core.List.{[], _∷_, map};
 ghost use Prim.Native.Nat.{ℕ, _+_, _*_, _^_, _≤_, _<_};
 ghost use lib.ListN.{length, take};
-ghost use Rattle.bcd.specs.Outcome.{most, deliver};
+ghost use Rattle.bcd.specs.Outcome.{most, delivered, deliver};
 ghost use Rattle.bcd.specs.Answers.{countedOf};
 ghost use Rattle.bcd.specs.Digits.{builtIn};
 ghost use Rattle.parameter.specs.Parameter.{four};
@@ -122,7 +122,8 @@ fn title(value: &[u8], kept: Kept, at: usize, out: &mut [u8]) -> usize
     requires { ⌜ HeldIn (now value) 8 kept ⌝ }
     requires { ⌜ length (now value) ≤ most ⌝ }
     requires { ⌜ at ≤ 2 ^ 57 ⌝ }
-    ensures { λ r. ⌜ Emitted (now (out .entry)) at (marked titleFields (keptTitle builtIn (now (value .entry)) kept)) r (now (out .exit)) ⌝ }
+    ensures { λ r. ⌜
+        Emitted (now (out .entry)) at (marked titleFields (keptTitle builtIn (now (value .entry)) kept)) r (now (out .exit)) ⌝ }
 {
     if kept.there {
         let place = kept.place;
@@ -297,7 +298,9 @@ fn params(input: &[u8], out: &mut [u8]) -> Accounts
 // Writes the account of a message. Reading's refusals, then each address's in wire order, then 14. The account is a table, so
 // it is not bounded as octets written are: it has at most 10 octets for each 4 of the parameters.
 pub fn read(input: &[u8], out: &mut [u8]) -> Counted
-    ensures { λ r. ⌜ record { answer = countedOf r; buffer = now (out .exit) } ≡ deliver (account builtIn (now (input .entry))) (now (out .entry)) ⌝ }
+    ensures { λ r. ⌜
+        delivered (countedOf r) (now (out .exit))
+        ≡ deliver (account builtIn (now (input .entry))) (now (out .entry)) ⌝ }
 {
     match CommonHeader::decode(input) {
         HeaderRead::Refused(r) => Counted::Refused(r),

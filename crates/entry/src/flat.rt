@@ -14,12 +14,12 @@ ghost use mathlib.Core.Path.{_≡_};
 ghost use Prim.Native.Nat.{ℕ, _+_, _≤_};
 ghost use mathlib.Core.List.{List};
 ghost use lib.ListN.{length};
-ghost use Rattle.bcd.specs.Outcome.{accepted, after, mapped, each, fit64, deliver};
+ghost use Rattle.bcd.specs.Outcome.{accepted, after, mapped, each, fit64, delivered, deliver};
 ghost use Rattle.bcd.specs.Answers.{countedOf};
 ghost use Rattle.parameter.specs.Parameter.{paddedLength, mostValue, encodeParam, wireLength};
 ghost use Rattle.parameter.specs.Walk.{valued};
 ghost use Rattle.parameter.specs.Answers.{stepOf};
-ghost use Rattle.message.specs.Message.{writeMessage};
+ghost use Rattle.message.specs.Message.{message, writeMessage};
 ghost use Rattle.entry.specs.Flat.{flatStep, flatList, encodeFlat};
 
 // The record at a position of a flat list, with the position moved on. 15.
@@ -96,7 +96,9 @@ fn put(list: &[u8], place: Place, out: &mut [u8]) -> usize
     requires { ⌜ place .start + place .length ≤ lib.ListN.length (now list) ⌝ }
     requires { ⌜ place .length ≤ mostValue ⌝ }
     requires { ⌜ paddedLength (place .length) ≤ lib.ListN.length (now out) ⌝ }
-    ensures { λ r. ⌜ record { answer = accepted r; buffer = now (out .exit) } ≡ deliver (encodeParam (valued (now (list .entry)) place)) (now (out .entry)) ⌝ }
+    ensures { λ r. ⌜
+        delivered (accepted r) (now (out .exit))
+        ≡ deliver (encodeParam (valued (now (list .entry)) place)) (now (out .entry)) ⌝ }
 {
     let start = place.start;
     let end = start + place.length;
@@ -110,7 +112,9 @@ fn put(list: &[u8], place: Place, out: &mut [u8]) -> usize
 fn write_list(list: &[u8], total: usize, out: &mut [u8])
     requires { ⌜ accepted total ≡ mapped length (after (flatList (now list)) (each encodeParam)) ⌝ }
     requires { ⌜ total ≤ length (now out) ⌝ }
-    ensures { λ _. ⌜ record { answer = accepted total; buffer = now (out .exit) } ≡ deliver (after (flatList (now (list .entry))) (each encodeParam)) (now (out .entry)) ⌝ }
+    ensures { λ _. ⌜
+        delivered (accepted total) (now (out .exit))
+        ≡ deliver (after (flatList (now (list .entry))) (each encodeParam)) (now (out .entry)) ⌝ }
 {
     let mut c = Cursor { at: 0 };
     let mut at: usize = 0;
@@ -134,7 +138,9 @@ fn write_list(list: &[u8], total: usize, out: &mut [u8])
 
 // Writes the message of a type and a flat list. 15, 10 in order, 12, 14.
 fn encode_typed(message_type: MessageType, list: &[u8], out: &mut [u8]) -> Counted
-    ensures { λ r. ⌜ record { answer = countedOf r; buffer = now (out .exit) } ≡ deliver (after (flatList (now (list .entry))) (λ ps. writeMessage (record { type = «message_type»; params = ps }))) (now (out .entry)) ⌝ }
+    ensures { λ r. ⌜
+        delivered (countedOf r) (now (out .exit))
+        ≡ deliver (after (flatList (now (list .entry))) (λ ps. writeMessage (message «message_type» ps))) (now (out .entry)) ⌝ }
 {
     match list_length(list) {
         Counted::Refused(r) => Counted::Refused(r),
@@ -155,7 +161,9 @@ fn encode_typed(message_type: MessageType, list: &[u8], out: &mut [u8]) -> Count
 
 // Writes the message of a class, a type and a flat list. 4, 15, 10 in order, 12 (the message's), 14.
 pub fn encode(class: u8, msg_type: u8, list: &[u8], out: &mut [u8]) -> Counted
-    ensures { λ r. ⌜ record { answer = countedOf r; buffer = now (out .exit) } ≡ deliver (encodeFlat class «msg_type» (now (list .entry))) (now (out .entry)) ⌝ }
+    ensures { λ r. ⌜
+        delivered (countedOf r) (now (out .exit))
+        ≡ deliver (encodeFlat class «msg_type» (now (list .entry))) (now (out .entry)) ⌝ }
 {
     match MessageType::from_class_type(class, msg_type) {
         TypeRead::Refused(r) => Counted::Refused(r),

@@ -11,7 +11,7 @@ ghost use Prim.Native.Nat.{_+_, _*_};
 ghost use Rattle.bcd.specs.Outcome.{deliver};
 ghost use Rattle.bcd.specs.Digits.{builtIn};
 ghost use Rattle.form.specs.Form.{settled};
-ghost use Rattle.report.specs.Report.{entered};
+ghost use Rattle.report.specs.Report.{entered, enter};
 ghost use Rattle.entry.specs.Account.{account};
 ghost use Rattle.entry.specs.Flat.{encodeFlat};
 
@@ -26,7 +26,9 @@ fn be32(high: u16, low: u16) -> usize
 // written by every call, refused or not, here and below.
 #[no_mangle]
 pub extern "C" fn sua_settle(input: &[u8], out: &mut [u8], report: &mut [u64]) -> u64
-    ensures { λ r. ⌜ record { number = r; buffer = now (out .exit); report = now (report .exit) } ≡ entered (deliver (settled builtIn (now (input .entry))) (now (out .entry))) (now (report .entry)) ⌝ }
+    ensures { λ r. ⌜
+        entered r (now (out .exit)) (now (report .exit))
+        ≡ enter (deliver (settled builtIn (now (input .entry))) (now (out .entry))) (now (report .entry)) ⌝ }
 {
     store(settle(input, out), report)
 }
@@ -35,7 +37,9 @@ pub extern "C" fn sua_settle(input: &[u8], out: &mut [u8], report: &mut [u64]) -
 // address's in wire order, then 14.
 #[no_mangle]
 pub extern "C" fn sua_read(input: &[u8], out: &mut [u8], report: &mut [u64]) -> u64
-    ensures { λ r. ⌜ record { number = r; buffer = now (out .exit); report = now (report .exit) } ≡ entered (deliver (account builtIn (now (input .entry))) (now (out .entry))) (now (report .entry)) ⌝ }
+    ensures { λ r. ⌜
+        entered r (now (out .exit)) (now (report .exit))
+        ≡ enter (deliver (account builtIn (now (input .entry))) (now (out .entry))) (now (report .entry)) ⌝ }
 {
     store(read(input, out), report)
 }
@@ -50,7 +54,9 @@ pub extern "C" fn sua_encode(
     out: &mut [u8],
     report: &mut [u64],
 ) -> u64
-    ensures { λ r. ⌜ record { number = r; buffer = now (out .exit); report = now (report .exit) } ≡ entered (deliver (encodeFlat class «msg_type» (now (list .entry))) (now (out .entry))) (now (report .entry)) ⌝ }
+    ensures { λ r. ⌜
+        entered r (now (out .exit)) (now (report .exit))
+        ≡ enter (deliver (encodeFlat class «msg_type» (now (list .entry))) (now (out .entry))) (now (report .entry)) ⌝ }
 {
     store(flat::encode(class, msg_type, list, out), report)
 }

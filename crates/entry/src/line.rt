@@ -7,10 +7,12 @@ ghost use mathlib.Core.Path.{_≡_};
 ghost use Prim.Native.Nat.{_+_, _≤_, _<_};
 ghost use mathlib.Core.List.{_++_};
 ghost use lib.ListN.{length, take, drop};
-ghost use Rattle.bcd.specs.Outcome.{accepted, deliver, most};
+ghost use Rattle.bcd.specs.Outcome.{accepted, delivered, deliver, most};
 ghost use Rattle.bcd.specs.Answers.{countedOf, numbered};
 ghost use Rattle.form.specs.Passes.{sumOf};
-ghost use Rattle.entry.specs.Line.{decimal, hex, space, words, between, formText, formLine, refusedLine, mostTaken, mostPrinted, Printed};
+ghost use Rattle.parameter.specs.Table.{over};
+ghost use Rattle.entry.specs.Line.{decimal, hex, space, words, between};
+ghost use Rattle.entry.specs.Line.{formText, formLine, refusedLine, mostTaken, mostPrinted, Printed};
 ghost use Rattle.entry.specs.Line.{digit as Line·digit};
 
 // The character of a digit: 0 to 9, then a to f.
@@ -36,7 +38,7 @@ fn decimal_length(n: usize) -> usize
 fn put_decimal(n: usize, out: &mut [u8]) -> usize
     requires { ⌜ length (decimal n) ≤ length (now out) ⌝ }
     ensures { λ r. ⌜ r ≡ length (decimal n) ⌝ }
-    ensures { λ _. ⌜ now (out .exit) ≡ decimal n ++ drop (length (decimal n)) (now (out .entry)) ⌝ }
+    ensures { λ _. ⌜ now (out .exit) ≡ over (decimal n) (now (out .entry)) ⌝ }
 {
     if n < 10 {
         out[0] = digit(n as u8);
@@ -51,7 +53,7 @@ fn put_decimal(n: usize, out: &mut [u8]) -> usize
 fn put_space(i: usize, out: &mut [u8]) -> usize
     requires { ⌜ length (space i) ≤ length (now out) ⌝ }
     ensures { λ r. ⌜ r ≡ length (space i) ⌝ }
-    ensures { λ _. ⌜ now (out .exit) ≡ space i ++ drop (length (space i)) (now (out .entry)) ⌝ }
+    ensures { λ _. ⌜ now (out .exit) ≡ over (space i) (now (out .entry)) ⌝ }
 {
     if i == 0 {
         return 0;
@@ -87,7 +89,7 @@ fn words_length(form: &[u8]) -> usize
 // Stores a form's words at the front of a slice.
 fn put_words(form: &[u8], out: &mut [u8])
     requires { ⌜ length (words (now form)) ≤ length (now out) ⌝ }
-    ensures { λ _. ⌜ now (out .exit) ≡ words (now (form .entry)) ++ drop (length (words (now (form .entry)))) (now (out .entry)) ⌝ }
+    ensures { λ _. ⌜ now (out .exit) ≡ over (words (now (form .entry))) (now (out .entry)) ⌝ }
 {
     let mut at: usize = 0;
     let mut i: usize = 0;
@@ -103,7 +105,7 @@ fn put_words(form: &[u8], out: &mut [u8])
 fn put_between(head: &[u8], n: usize, tail: &[u8], out: &mut [u8]) -> usize
     requires { ⌜ length (between (now head) n (now tail)) ≤ length (now out) ⌝ }
     ensures { λ r. ⌜ r ≡ length (between (now (head .entry)) n (now (tail .entry))) ⌝ }
-    ensures { λ _. ⌜ now (out .exit) ≡ between (now (head .entry)) n (now (tail .entry)) ++ drop (length (between (now (head .entry)) n (now (tail .entry)))) (now (out .entry)) ⌝ }
+    ensures { λ _. ⌜ now (out .exit) ≡ over (between (now (head .entry)) n (now (tail .entry))) (now (out .entry)) ⌝ }
 {
     let first = bytes::copy(head, out);
     let end = first + put_decimal(n, &mut out[first..]);
@@ -125,7 +127,9 @@ fn put_form(form: &[u8], n: usize, out: &mut [u8])
 
 // Writes a form's line. 12 above 1,048,576 octets of the form, then 14; the line has at most 2,359,313 characters.
 pub fn form_line(form: &[u8], out: &mut [u8]) -> Counted
-    ensures { λ r. ⌜ record { answer = countedOf r; buffer = now (out .exit) } ≡ deliver (formLine (now (form .entry))) (now (out .entry)) ⌝ }
+    ensures { λ r. ⌜
+        delivered (countedOf r) (now (out .exit))
+        ≡ deliver (formLine (now (form .entry))) (now (out .entry)) ⌝ }
 {
     let given = form.len();
     if 1048576 < given {
@@ -141,7 +145,9 @@ pub fn form_line(form: &[u8], out: &mut [u8]) -> Counted
 
 // Writes the line of a refusal. 14.
 pub fn refused_line(refusal: Refusal, out: &mut [u8]) -> Counted
-    ensures { λ r. ⌜ record { answer = countedOf r; buffer = now (out .exit) } ≡ deliver (accepted (refusedLine (numbered refusal .0))) (now (out .entry)) ⌝ }
+    ensures { λ r. ⌜
+        delivered (countedOf r) (now (out .exit))
+        ≡ deliver (accepted (refusedLine (numbered refusal .0))) (now (out .entry)) ⌝ }
 {
     let which = number(refusal);
     let n = 11 + decimal_length(which);

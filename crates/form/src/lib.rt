@@ -11,7 +11,7 @@ ghost use mathlib.Core.Path.{_≡_};
 ghost use Prim.Native.Nat.{ℕ, _+_, _*_, _≤_};
 ghost use mathlib.Core.List.{List};
 ghost use lib.ListN.{length};
-ghost use Rattle.bcd.specs.Outcome.{Outcome, accepted, after, mapped, most, deliver};
+ghost use Rattle.bcd.specs.Outcome.{Outcome, accepted, after, mapped, most, delivered, deliver};
 ghost use Rattle.bcd.specs.Answers.{countedOf};
 ghost use Rattle.bcd.specs.Digits.{builtIn};
 ghost use Rattle.parameter.specs.Parameter.{Param, mostValue, runOctets, runLength};
@@ -49,7 +49,10 @@ fn add(sum: Counted, input: &[u8], place: Place) -> Counted
     requires { ⌜ place .start + place .length ≤ lib.ListN.length (now input) ⌝ }
     requires { ⌜ place .length ≤ mostValue ⌝ }
     requires { ⌜ sumOf (countedOf sum) ≤ 65536 * most ⌝ }
-    ensures { λ r. ⌜ countedOf r ≡ after (countedOf sum) (λ n. mapped (λ qs. n + runLength qs) (settledParam builtIn (valued (now (input .entry)) place))) ⌝ }
+    ensures { λ r. ⌜
+        countedOf r
+        ≡ after (countedOf sum) (λ n.
+        mapped (λ qs. n + runLength qs) (settledParam builtIn (valued (now (input .entry)) place))) ⌝ }
 {
     match sum {
         Counted::Refused(r) => Counted::Refused(r),
@@ -109,7 +112,9 @@ pub fn settled_length(input: &[u8]) -> Counted
 fn put_settled(tag: u16, value: &[u8], out: &mut [u8]) -> usize
     requires { ⌜ length (now value) ≤ mostValue ⌝ }
     requires { ⌜ Placeable (record { tag = tag; value = now value }) (length (now out)) ⌝ }
-    ensures { λ r. ⌜ record { answer = accepted r; buffer = now (out .exit) } ≡ deliver (mapped runOctets (settledParam builtIn (record { tag = tag; value = now (value .entry) }))) (now (out .entry)) ⌝ }
+    ensures { λ r. ⌜
+        delivered (accepted r) (now (out .exit))
+        ≡ deliver (mapped runOctets (settledParam builtIn (record { tag = tag; value = now (value .entry) }))) (now (out .entry)) ⌝ }
 {
     if is_address(tag) {
         let Counted::Count(n) = address::rewrite::rewrite(tag, value, &mut out[4..]) else {
@@ -127,7 +132,9 @@ fn write_params(input: &[u8], run: usize, out: &mut [u8])
     requires { ⌜ length (now input) ≤ most ⌝ }
     requires { ⌜ accepted run ≡ mapped runLength (settledRun builtIn (now input)) ⌝ }
     requires { ⌜ run ≤ length (now out) ⌝ }
-    ensures { λ _. ⌜ record { answer = accepted run; buffer = now (out .exit) } ≡ deliver (mapped runOctets (settledRun builtIn (now (input .entry)))) (now (out .entry)) ⌝ }
+    ensures { λ _. ⌜
+        delivered (accepted run) (now (out .exit))
+        ≡ deliver (mapped runOctets (settledRun builtIn (now (input .entry)))) (now (out .entry)) ⌝ }
 {
     let mut c = Cursor {
         at: CommonHeader::SIZE,
@@ -155,7 +162,9 @@ fn write_params(input: &[u8], run: usize, out: &mut [u8])
 
 // Writes the form of a message. Reading's refusals, then each address's, 9, 10 in wire order, then 14.
 pub fn settle(input: &[u8], out: &mut [u8]) -> Counted
-    ensures { λ r. ⌜ record { answer = countedOf r; buffer = now (out .exit) } ≡ deliver (settled builtIn (now (input .entry))) (now (out .entry)) ⌝ }
+    ensures { λ r. ⌜
+        delivered (countedOf r) (now (out .exit))
+        ≡ deliver (settled builtIn (now (input .entry))) (now (out .entry)) ⌝ }
 {
     match CommonHeader::decode(input) {
         HeaderRead::Refused(unread) => Counted::Refused(unread),

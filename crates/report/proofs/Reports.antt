@@ -12,7 +12,7 @@ use Rattle.bcd.specs.Answers.{numbered}
 use Rattle.bcd.specs.Outcome.{Outcome, accepted, refused, Delivered}
 use Rattle.bcd.proofs.Outcomes.{le-or-lt}
 use Rattle.bcd.proofs.Writing.{Begun}
-use Rattle.report.specs.Report.{numbers, reported, entered}
+use Rattle.report.specs.Report.{numbers, reported, enter}
 
 -- A refusal's number has at most two decimal digits.
 pub number-small : (r : Refusal) → numbered r .0 < 100
@@ -76,8 +76,8 @@ pub entry-stored :
     → record { answer = o; buffer = buffer } ≡ d
     → number ≡ getD (numbers o) 0 0
     → report ≡ reported o held
-    → record { number = number; buffer = buffer; report = report } ≡ entered d held
+    → record { number = number; buffer = buffer; report = report } ≡ enter d held
 entry-stored {number} {buffer} {report} o d held e n r =
     ap (λ (k : ℕ). record { number = k; buffer = buffer; report = report }) n
     ∙ ap (λ (k : List ℕ). record { number = getD (numbers o) 0 0; buffer = buffer; report = k }) r
-    ∙ ap (λ (d : Delivered). entered d held) e
+    ∙ ap (λ (d : Delivered). enter d held) e

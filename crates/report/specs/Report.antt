@@ -16,9 +16,12 @@ pub record Entered : Type 0 where
   pub buffer : List ℕ
   pub report : List ℕ
 
+abbrev pub entered : (number : ℕ) → (buffer report : List ℕ) → Entered
+entered number buffer report = record { number = number; buffer = buffer; report = report }
+
 -- The report gets the numbers in its first four places, as many of them as it has; the first number is returned.
 unfoldable pub reported : Outcome ℕ → List ℕ → List ℕ
 reported o held = take (length held) (numbers o) ++ drop 4 held
 
-abbrev pub entered : Delivered → List ℕ → Entered
-entered d held = record { number = getD (numbers (d .answer)) 0 0; buffer = d .buffer; report = reported (d .answer) held }
+abbrev pub enter : Delivered → List ℕ → Entered
+enter d held = record { number = getD (numbers (d .answer)) 0 0; buffer = d .buffer; report = reported (d .answer) held }

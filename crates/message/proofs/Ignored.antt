@@ -17,13 +17,6 @@ use Rattle.message.specs.declared.header.MessageType.{MessageType}
 use Rattle.message.specs.Types.{fromClassType}
 use Rattle.message.specs.Message.{headerWith, readHeader, message, readMessage}
 
--- The reserved octet, whatever it is.
-pub reserved-ignored :
-    (v r s c t a b d e : ℕ) (rest : List ℕ)
-    → readMessage (v ∷ r ∷ c ∷ t ∷ a ∷ b ∷ d ∷ e ∷ rest) ≡ readMessage (v ∷ s ∷ c ∷ t ∷ a ∷ b ∷ d ∷ e ∷ rest)
-unfolding readMessage readHeader
-reserved-ignored v r s c t a b d e rest = refl
-
 -- Of a header that was read only the type counts.
 same-type :
     (small large one : Bool) (xs ys zs : List ℕ) (type : Outcome MessageType) (n m : ℕ) (ps : Outcome (List Param))
@@ -45,6 +38,13 @@ unfolding readMessage readHeader
 length-ignored v r c t a b d e i j k l rest =
     let n = length (v ∷ r ∷ c ∷ t ∷ a ∷ b ∷ d ∷ e ∷ rest) in
     same-type (leb n most) (leb 8 n) (eqb v 1) _ _ _ (fromClassType c t) _ _ (parameters rest)
+
+-- The reserved octet, whatever it is.
+pub reserved-ignored :
+    (v r s c t a b d e : ℕ) (rest : List ℕ)
+    → readMessage (v ∷ r ∷ c ∷ t ∷ a ∷ b ∷ d ∷ e ∷ rest) ≡ readMessage (v ∷ s ∷ c ∷ t ∷ a ∷ b ∷ d ∷ e ∷ rest)
+unfolding readMessage readHeader
+reserved-ignored v r s c t a b d e rest = refl
 
 -- A message of at most 1,048,576 octets whose octets behind the header hold a run: its header decides, and the run is read.
 pub held-read :

@@ -12,7 +12,7 @@ use Rattle.address.specs.Listing.{otherPlaces}
 use Rattle.address.specs.Plan.{placesIn}
 use Rattle.address.proofs.Others.{others-append, others-fewer}
 use Rattle.entry.specs.Account.{placeOctets, placesOctets, moved}
-use Rattle.entry.specs.Emitting.{Emitted}
+use Rattle.entry.specs.steps.Emitting.{Emitted}
 use Rattle.entry.proofs.Emission.{emitted-none, emitted-more}
 
 abbrev pub listed : (base : ℕ) → List Place → List ℕ

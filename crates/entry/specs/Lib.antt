@@ -1,4 +1,4 @@
 pub mod Flat
 pub mod Line
 pub mod Account
-pub mod Emitting
+pub mod steps

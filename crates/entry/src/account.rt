@@ -27,9 +27,9 @@ ghost use Rattle.address.specs.Address.{titleAt};
 ghost use Rattle.address.specs.Parts.{keptTitle, keptCode, keptSub};
 ghost use Rattle.address.specs.Listing.{otherPlaces};
 ghost use Rattle.address.specs.Plan.{HeldIn, Read};
-ghost use Rattle.form.specs.Passes.{sumOf};
+ghost use Rattle.form.specs.steps.Passes.{sumOf};
 ghost use Rattle.entry.specs.Account.{placeOctets, placesOctets, marked, titleFields, moved, addressAccount, account};
-ghost use Rattle.entry.specs.Emitting.{Emitted, Tried, othersFields, partsFields, Further, Accounted};
+ghost use Rattle.entry.specs.steps.Emitting.{Emitted, Tried, othersFields, partsFields, Further, Accounted};
 
 // Where the account of the parameters ends, or why it is refused; and how many parameters there are.
 struct Accounts {
@@ -297,7 +297,7 @@ fn params(input: &[u8], out: &mut [u8]) -> Accounts
 
 // Writes the account of a message. Reading's refusals, then each address's in wire order, then 14. The account is a table, so
 // it is not bounded as octets written are: it has at most 10 octets for each 4 of the parameters.
-pub fn read(input: &[u8], out: &mut [u8]) -> Counted
+pub(crate) fn read(input: &[u8], out: &mut [u8]) -> Counted
     ensures { λ r. ⌜
         delivered (countedOf r) (now (out .exit))
         ≡ deliver (account builtIn (now (input .entry))) (now (out .entry)) ⌝ }

@@ -160,7 +160,7 @@ fn encode_typed(message_type: MessageType, list: &[u8], out: &mut [u8]) -> Count
 }
 
 // Writes the message of a class, a type and a flat list. 4, 15, 10 in order, 12 (the message's), 14.
-pub fn encode(class: u8, msg_type: u8, list: &[u8], out: &mut [u8]) -> Counted
+pub(crate) fn encode(class: u8, msg_type: u8, list: &[u8], out: &mut [u8]) -> Counted
     ensures { λ r. ⌜
         delivered (countedOf r) (now (out .exit))
         ≡ deliver (encodeFlat class «msg_type» (now (list .entry))) (now (out .entry)) ⌝ }

@@ -1,6 +1,6 @@
 // The entries for other languages, on slices of octets and numbers (include/sua.h).
-pub mod account;
-pub mod flat;
+mod account;
+mod flat;
 pub mod line;
 
 use account::read;

@@ -9,7 +9,7 @@ ghost use mathlib.Core.List.{_++_};
 ghost use lib.ListN.{length, take, drop};
 ghost use Rattle.bcd.specs.Outcome.{accepted, delivered, deliver, most};
 ghost use Rattle.bcd.specs.Answers.{countedOf, numbered};
-ghost use Rattle.form.specs.Passes.{sumOf};
+ghost use Rattle.form.specs.steps.Passes.{sumOf};
 ghost use Rattle.parameter.specs.Table.{over};
 ghost use Rattle.entry.specs.Line.{decimal, hex, space, words, between};
 ghost use Rattle.entry.specs.Line.{formText, formLine, refusedLine, mostTaken, mostPrinted, Printed};
@@ -126,7 +126,7 @@ fn put_form(form: &[u8], n: usize, out: &mut [u8])
 }
 
 // Writes a form's line. 12 above 1,048,576 octets of the form, then 14; the line has at most 2,359,313 characters.
-pub fn form_line(form: &[u8], out: &mut [u8]) -> Counted
+fn form_line(form: &[u8], out: &mut [u8]) -> Counted
     ensures { λ r. ⌜
         delivered (countedOf r) (now (out .exit))
         ≡ deliver (formLine (now (form .entry))) (now (out .entry)) ⌝ }
@@ -144,7 +144,7 @@ pub fn form_line(form: &[u8], out: &mut [u8]) -> Counted
 }
 
 // Writes the line of a refusal. 14.
-pub fn refused_line(refusal: Refusal, out: &mut [u8]) -> Counted
+fn refused_line(refusal: Refusal, out: &mut [u8]) -> Counted
     ensures { λ r. ⌜
         delivered (countedOf r) (now (out .exit))
         ≡ deliver (accepted (refusedLine (numbered refusal .0))) (now (out .entry)) ⌝ }

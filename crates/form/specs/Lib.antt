@@ -1,4 +1,4 @@
 pub mod Form
 pub mod HasForm
 pub mod Standing
-pub mod Passes
+pub mod steps

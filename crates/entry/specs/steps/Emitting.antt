@@ -1,5 +1,4 @@
--- Steps of the code between its public calls: octets stored from a position on, as many of them as the slice has places
--- for. No public contract cites these.
+-- Octets stored from a position on, as many of them as the slice has places for.
 use Prim.Native.Nat.{ℕ, _+_, _%_}
 use mathlib.Core.Path.{_≡_}
 use mathlib.Core.List.{List, [], _∷_, _++_, map}

@@ -1,4 +1,5 @@
 pub mod Form
 pub mod HasForm
 pub mod Standing
+pub mod Worked
 pub mod steps

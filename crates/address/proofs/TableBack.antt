@@ -20,7 +20,7 @@ use Rattle.parameter.proofs.Stored.{stored-records}
 use Rattle.address.specs.Address.{Title, titleAt, Address, addressWith, readAddress, writeAddress}
 use Rattle.address.specs.Records.{titleOf, titleGiven, flagged, addressOf, addressGiven}
 use Rattle.address.specs.Titles.{recordOf, noTitle}
-use Rattle.address.specs.Listing.{isOther, otherPlaces, addressPlaces, isThere, addressRecord, recordIn, Listed, listAddress}
+use Rattle.address.specs.Listing.{isOther, otherPlaces, addressPlaces, isThere, addressRecord, recordIn, Listed, listed, listAddress}
 use Rattle.address.specs.Given.{encodeAddress}
 use Rattle.address.specs.Parts.{nothing, noteAll, keptTitle}
 use Rattle.address.specs.Plan.{Read}
@@ -135,7 +135,7 @@ module _ {v : List ℕ} {s : Parts} (y : Read v s) (t held : Table) (n : ℕ)
 pub written-from-table :
     (v : List ℕ) (t held : Table) (r : SuaAddress)
     → Octets v
-    → record { answer = accepted tt; address = r; table = held } ≡ listAddress v t
+    → listed (accepted tt) r held ≡ listAddress v t
     → encodeAddress r v held ≡ after (readAddress builtIn v) (writeAddress builtIn 0)
 written-from-table v t held r o e =
     let l = list-inv v t held r e in

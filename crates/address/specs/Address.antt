@@ -8,7 +8,7 @@ use lib.ListN.{length, getD, drop}
 use lib.Dec.{leb, eqb}
 use Rattle.bcd.specs.Outcome.{Outcome, accepted, pick, after, demand, mapped, each, bounded, fit64}
 use Rattle.bcd.specs.Digits.{Alphabet, digitsIn, writeDigits}
-use Rattle.parameter.specs.Parameter.{Param, two, four, fourIn, mostValue, encodeParam, twoAt}
+use Rattle.parameter.specs.Parameter.{Param, param, two, four, fourIn, mostValue, encodeParam, twoAt}
 use Rattle.parameter.specs.Walk.{parameters}
 
 -- Global title: indicator, translation type, numbering plan, nature of address, digits (RFC 3868, 3.10.2.3).
@@ -164,9 +164,9 @@ pieces a = present title (a .title) ++ (present code (a .code) ++ (present sub (
 
 -- The sub-parameter that a piece is written as; a title refuses 11, 9 (RFC 3868, 3.10.2.3 to 3.10.2.5).
 unfoldable pub subParam : Alphabet → Piece → Outcome (List Param)
-subParam A (title t) = mapped (λ v. record { tag = 0x8001; value = v } ∷ []) (writeTitle A t)
-subParam A (code n) = accepted (record { tag = 0x8002; value = four n } ∷ [])
-subParam A (sub n) = accepted (record { tag = 0x8003; value = 0 ∷ 0 ∷ 0 ∷ n ∷ [] } ∷ [])
+subParam A (title t) = mapped (λ v. param 0x8001 v ∷ []) (writeTitle A t)
+subParam A (code n) = accepted (param 0x8002 (four n) ∷ [])
+subParam A (sub n) = accepted (param 0x8003 (0 ∷ 0 ∷ 0 ∷ n ∷ []) ∷ [])
 subParam A (other p) = accepted (p ∷ [])
 
 -- An address value of at most 65,531 octets, else 10 with the address's tag (document 01, 'Refused because of the input').

@@ -70,9 +70,13 @@ pub record Listed : Type 0 where
   pub address : SuaAddress
   pub table : Table
 
+-- An answer beside the address's record and what the table then holds.
+abbrev pub listed : Outcome (Unit {0}) → SuaAddress → Table → Listed
+listed answer address held = record { answer = answer; address = address; table = held }
+
 -- The refusals of reading, then 13 (document 01, 'Order').
 unfoldable pub listAddress : List ℕ → Table → Listed
 listAddress v t =
     let stored : Tabulated = tabulate (addressPlaces v) t in
     let read : Outcome Address = after (readAddress builtIn v) (λ a. mapped (λ n. a) (stored .answer)) in
-    record { answer = mapped (λ a. tt) read; address = recordIn read; table = stored .table }
+    listed (mapped (λ a. tt) read) (recordIn read) (stored .table)

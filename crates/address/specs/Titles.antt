@@ -20,6 +20,10 @@ pub record TitleAnswer : Type 0 where
   pub answer : Outcome (Unit {0})
   pub title : GlobalTitle
 
+-- An answer beside the title's record.
+abbrev pub titled : Outcome (Unit {0}) → GlobalTitle → TitleAnswer
+titled answer title = record { answer = answer; title = title }
+
 abbrev pub zeros : List ℕ
 zeros = replicate 255 0
 
@@ -31,8 +35,8 @@ abbrev pub noTitle : GlobalTitle
 noTitle = titleRecord 0 0 0 0 zeros 0
 
 abbrev pub titleRefused : Outcome (Unit {0}) → TitleAnswer
-titleRefused o = record { answer = o; title = noTitle }
+titleRefused o = titled o noTitle
 
 unfoldable pub titleAnswer : Outcome Title → TitleAnswer
-titleAnswer (accepted t) = record { answer = accepted tt; title = recordOf t }
+titleAnswer (accepted t) = titled (accepted tt) (recordOf t)
 titleAnswer (refused n vs) = titleRefused (refused n vs)

@@ -23,10 +23,10 @@ ghost use lib.ListN.{length};
 ghost use Rattle.bcd.specs.Outcome.{accepted, mapped, most};
 ghost use Rattle.bcd.specs.Answers.{refusalOf};
 ghost use Rattle.bcd.specs.Digits.{builtIn};
-ghost use Rattle.parameter.specs.Table.{tabulate};
+ghost use Rattle.parameter.specs.Table.{table, tabulated, tabulate};
 ghost use Rattle.address.specs.Address.{readAddress};
 ghost use Rattle.address.specs.Titles.{verdictOf, recordOf, noTitle};
-ghost use Rattle.address.specs.Listing.{otherPlaces, addressPlaces, addressRecord, noAddress, Listed, listAddress};
+ghost use Rattle.address.specs.Listing.{otherPlaces, addressPlaces, addressRecord, noAddress, listed, listAddress};
 ghost use Rattle.address.specs.Parts.{keptTitle, keptCode, keptSub};
 ghost use Rattle.address.specs.Plan.{HeldIn, Read, HasRow, rowed};
 
@@ -185,7 +185,9 @@ fn list_others(
     requires { ⌜ parts .«other_count» ≤ length (now tags) ⌝ }
     requires { ⌜ parts .«other_count» ≤ length (now starts) ⌝ }
     requires { ⌜ parts .«other_count» ≤ length (now lengths) ⌝ }
-    ensures { λ _. ⌜ record { answer = accepted (parts .«other_count»); table = record { tags = now (tags .exit); starts = now (starts .exit); lengths = now (lengths .exit) } } ≡ tabulate (addressPlaces (now (value .entry))) (record { tags = now (tags .entry); starts = now (starts .entry); lengths = now (lengths .entry) }) ⌝ }
+    ensures { λ _. ⌜
+        tabulated (accepted (parts .«other_count»)) (table (now (tags .exit)) (now (starts .exit)) (now (lengths .exit)))
+        ≡ tabulate (addressPlaces (now (value .entry))) (table (now (tags .entry)) (now (starts .entry)) (now (lengths .entry))) ⌝ }
 {
     let mut c = Cursor { at: 4 };
     let mut row: usize = 0;
@@ -216,7 +218,9 @@ impl SuaAddress {
         starts: &mut [usize],
         lengths: &mut [usize],
     ) -> AddressRead
-        ensures { λ r. ⌜ record { answer = verdictOf (r .verdict); address = r .address; table = record { tags = now (tags .exit); starts = now (starts .exit); lengths = now (lengths .exit) } } ≡ listAddress (now (value .entry)) (record { tags = now (tags .entry); starts = now (starts .entry); lengths = now (lengths .entry) }) ⌝ }
+        ensures { λ r. ⌜
+            listed (verdictOf (r .verdict)) (r .address) (table (now (tags .exit)) (now (starts .exit)) (now (lengths .exit)))
+            ≡ listAddress (now (value .entry)) (table (now (tags .entry)) (now (starts .entry)) (now (lengths .entry))) ⌝ }
     {
         match interpret(value) {
             Surveyed::Refused(r) => refused(r),

@@ -11,9 +11,10 @@ ghost use mathlib.Core.Path.{_≡_};
 ghost use mathlib.Core.List.{_++_};
 ghost use Prim.Native.Nat.{_≤_};
 ghost use lib.ListN.{length, drop};
-ghost use Rattle.bcd.specs.Outcome.{accepted, pick, mapped, deliver};
+ghost use Rattle.bcd.specs.Outcome.{accepted, pick, mapped, delivered, deliver};
 ghost use Rattle.bcd.specs.Answers.{countedOf};
-ghost use Rattle.parameter.specs.Parameter.{four, runOctets, runLength};
+ghost use Rattle.parameter.specs.Parameter.{param, four, runOctets, runLength};
+ghost use Rattle.parameter.specs.Table.{table};
 ghost use Rattle.address.specs.Plan.{Ready};
 ghost use Rattle.address.specs.Given.{encodeAddress};
 ghost use Rattle.address.specs.GivenParts.{givenTitle, givenParam, givenHead};
@@ -44,7 +45,10 @@ fn encoded_length(
     starts: &[usize],
     lengths: &[usize],
 ) -> Counted
-    ensures { λ r. ⌜ countedOf r ≡ mapped length (encodeAddress address (now (values .entry)) (record { tags = now (tags .entry); starts = now (starts .entry); lengths = now (lengths .entry) })) ⌝ }
+    ensures { λ r. ⌜
+        countedOf r
+        ≡ mapped length
+        (encodeAddress address (now (values .entry)) (table (now (tags .entry)) (now (starts .entry)) (now (lengths .entry)))) ⌝ }
 {
     let count = address.other_count;
     if parameter::outside(values, tags, starts, lengths, count) {
@@ -87,7 +91,9 @@ fn write_head(address: SuaAddress, out: &mut [u8])
 // Writes the title, if it is there: its value in place, and tag, length and padding round it.
 fn write_title(there: bool, gt: GlobalTitle, out: &mut [u8]) -> usize
     requires { ⌜ Ready (givenTitle there gt) (now out) ⌝ }
-    ensures { λ r. ⌜ record { answer = accepted r; buffer = now (out .exit) } ≡ deliver (mapped runOctets (givenTitle there gt)) (now (out .entry)) ⌝ }
+    ensures { λ r. ⌜
+        delivered (accepted r) (now (out .exit))
+        ≡ deliver (mapped runOctets (givenTitle there gt)) (now (out .entry)) ⌝ }
 {
     if there {
         let n = 8 + (gt.count + 1) / 2;
@@ -115,7 +121,9 @@ fn four_octets(n: u32) -> [u8; 4]
 // Writes a point code or an SSN, if it is there.
 fn write_four(there: bool, tag: u16, value: [u8; 4], out: &mut [u8]) -> usize
     requires { ⌜ pick there 8 0 ≤ length (now out) ⌝ }
-    ensures { λ r. ⌜ record { answer = accepted r; buffer = now (out .exit) } ≡ deliver (accepted (runOctets (givenParam there (record { tag = tag; value = value })))) (now (out .entry)) ⌝ }
+    ensures { λ r. ⌜
+        delivered (accepted r) (now (out .exit))
+        ≡ deliver (accepted (runOctets (givenParam there (param tag value)))) (now (out .entry)) ⌝ }
 {
     if there {
         parameter::encode(tag, &value, out);
@@ -134,9 +142,15 @@ fn write(
     total: usize,
     out: &mut [u8],
 )
-    requires { ⌜ accepted total ≡ mapped length (encodeAddress address (now values) (record { tags = now tags; starts = now starts; lengths = now lengths })) ⌝ }
+    requires { ⌜
+        accepted total
+        ≡ mapped length (encodeAddress address (now values) (table (now tags) (now starts) (now lengths))) ⌝ }
     requires { ⌜ total ≤ length (now out) ⌝ }
-    ensures { λ _. ⌜ record { answer = accepted total; buffer = now (out .exit) } ≡ deliver (encodeAddress address (now (values .entry)) (record { tags = now (tags .entry); starts = now (starts .entry); lengths = now (lengths .entry) })) (now (out .entry)) ⌝ }
+    ensures { λ _. ⌜
+        delivered (accepted total) (now (out .exit))
+        ≡ deliver
+        (encodeAddress address (now (values .entry)) (table (now (tags .entry)) (now (starts .entry)) (now (lengths .entry))))
+        (now (out .entry)) ⌝ }
 {
     let gt = address.global_title;
     let count = address.other_count;
@@ -160,7 +174,11 @@ impl SuaAddress {
         lengths: &[usize],
         out: &mut [u8],
     ) -> Counted
-        ensures { λ r. ⌜ record { answer = countedOf r; buffer = now (out .exit) } ≡ deliver (encodeAddress self (now (values .entry)) (record { tags = now (tags .entry); starts = now (starts .entry); lengths = now (lengths .entry) })) (now (out .entry)) ⌝ }
+        ensures { λ r. ⌜
+            delivered (countedOf r) (now (out .exit))
+            ≡ deliver
+            (encodeAddress self (now (values .entry)) (table (now (tags .entry)) (now (starts .entry)) (now (lengths .entry))))
+            (now (out .entry)) ⌝ }
     {
         match encoded_length(self, values, tags, starts, lengths) {
             Counted::Refused(r) => Counted::Refused(r),

@@ -50,7 +50,9 @@ fn too_short(place: Place) -> Refusal
 fn measure_title(value: &[u8]) -> Counted
     requires { ⌜ 8 ≤ length (now value) ⌝ }
     requires { ⌜ length (now value) ≤ most ⌝ }
-    ensures { λ r. ⌜ countedOf r ≡ mapped runLength (subParam builtIn (title (titleAt builtIn (now (value .entry))))) ⌝ }
+    ensures { λ r. ⌜
+        countedOf r
+        ≡ mapped runLength (subParam builtIn (title (titleAt builtIn (now (value .entry))))) ⌝ }
 {
     match bcd::rewrite::rewritten_digits_length(&value[8..], value[4]) {
         Counted::Count(n) => Counted::Count((n + 15) / 4 * 4),
@@ -62,7 +64,9 @@ fn measure_title(value: &[u8]) -> Counted
 fn title_length(value: &[u8], kept: Kept) -> Counted
     requires { ⌜ HeldIn (now value) 8 kept ⌝ }
     requires { ⌜ length (now value) ≤ most ⌝ }
-    ensures { λ r. ⌜ countedOf r ≡ mapped runLength (each (subParam builtIn) (present title (keptTitle builtIn (now (value .entry)) kept))) ⌝ }
+    ensures { λ r. ⌜
+        countedOf r
+        ≡ mapped runLength (each (subParam builtIn) (present title (keptTitle builtIn (now (value .entry)) kept))) ⌝ }
 {
     if kept.there {
         let place = kept.place;

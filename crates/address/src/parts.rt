@@ -133,7 +133,9 @@ impl Parts {
 
 // Walks the sub-parameters behind the first four octets. 12, then 5 or 6 in wire order.
 pub(crate) fn survey(value: &[u8]) -> Surveyed
-    ensures { λ r. ⌜ surveyedOf r ≡ bounded (now (value .entry)) (mapped (noteAll nothing) (places (now (value .entry)) 4)) ⌝ }
+    ensures { λ r. ⌜
+        surveyedOf r
+        ≡ bounded (now (value .entry)) (mapped (noteAll nothing) (places (now (value .entry)) 4)) ⌝ }
 {
     if 1048576 < value.len() {
         return Surveyed::Refused(Refusal::TooManyOctets(value.len()));

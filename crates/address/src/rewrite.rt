@@ -14,7 +14,7 @@ ghost use mathlib.Core.Path.{_≡_};
 ghost use mathlib.Core.List.{_∷_, [], _++_, map};
 ghost use Prim.Native.Nat.{_+_, _%_, _≤_, _<_};
 ghost use lib.ListN.{length, getD, set, drop};
-ghost use Rattle.bcd.specs.Outcome.{accepted, after, mapped, each, deliver};
+ghost use Rattle.bcd.specs.Outcome.{accepted, after, mapped, each, delivered, deliver};
 ghost use Rattle.bcd.specs.Answers.{countedOf};
 ghost use Rattle.bcd.specs.Digits.{builtIn};
 ghost use Rattle.parameter.specs.Parameter.{runOctets, runLength, mostValue};
@@ -26,7 +26,9 @@ ghost use Rattle.address.specs.Plan.{HeldIn, Ready, Walked, Plan, headOc
 
 // How many octets an address value has when it is read and written again. Reading's refusals, then 9, then 10.
 pub fn rewritten_length(tag: u16, value: &[u8]) -> Counted
-    ensures { λ r. ⌜ countedOf r ≡ mapped length (after (readAddress builtIn (now (value .entry))) (writeAddress builtIn tag)) ⌝ }
+    ensures { λ r. ⌜
+        countedOf r
+        ≡ mapped length (after (readAddress builtIn (now (value .entry))) (writeAddress builtIn tag)) ⌝ }
 {
     match plan(true, tag, value) {
         Planned::Refused(r) => Counted::Refused(r),
@@ -57,7 +59,9 @@ fn clear_high(out: &mut [u8], i: usize)
 fn put_title(value: &[u8], out: &mut [u8]) -> usize
     requires { ⌜ 8 ≤ length (now value) ⌝ }
     requires { ⌜ Ready (subParam builtIn (title (titleAt builtIn (now value)))) (now out) ⌝ }
-    ensures { λ r. ⌜ record { answer = accepted r; buffer = now (out .exit) } ≡ deliver (mapped runOctets (subParam builtIn (title (titleAt builtIn (now (value .entry)))))) (now (out .entry)) ⌝ }
+    ensures { λ r. ⌜
+        delivered (accepted r) (now (out .exit))
+        ≡ deliver (mapped runOctets (subParam builtIn (title (titleAt builtIn (now (value .entry)))))) (now (out .entry)) ⌝ }
 {
     let count = value[4] as usize;
     let digits = bcd::smaller(count, 2 * (value.len() - 8));
@@ -78,7 +82,11 @@ fn put_title(value: &[u8], out: &mut [u8]) -> usize
 fn write_title(value: &[u8], kept: Kept, out: &mut [u8]) -> usize
     requires { ⌜ HeldIn (now value) 8 kept ⌝ }
     requires { ⌜ Ready (each (subParam builtIn) (present title (keptTitle builtIn (now value) kept))) (now out) ⌝ }
-    ensures { λ r. ⌜ record { answer = accepted r; buffer = now (out .exit) } ≡ deliver (mapped runOctets (each (subParam builtIn) (present title (keptTitle builtIn (now (value .entry)) kept)))) (now (out .entry)) ⌝ }
+    ensures { λ r. ⌜
+        delivered (accepted r) (now (out .exit))
+        ≡ deliver
+        (mapped runOctets (each (subParam builtIn) (present title (keptTitle builtIn (now (value .entry)) kept))))
+        (now (out .entry)) ⌝ }
 {
     if kept.there {
         let place = kept.place;
@@ -93,7 +101,11 @@ fn write_title(value: &[u8], kept: Kept, out: &mut [u8]) -> usize
 fn write_code(value: &[u8], kept: Kept, out: &mut [u8]) -> usize
     requires { ⌜ HeldIn (now value) 4 kept ⌝ }
     requires { ⌜ Ready (each (subParam builtIn) (present code (keptCode (now value) kept))) (now out) ⌝ }
-    ensures { λ r. ⌜ record { answer = accepted r; buffer = now (out .exit) } ≡ deliver (mapped runOctets (each (subParam builtIn) (present code (keptCode (now (value .entry)) kept)))) (now (out .entry)) ⌝ }
+    ensures { λ r. ⌜
+        delivered (accepted r) (now (out .exit))
+        ≡ deliver
+        (mapped runOctets (each (subParam builtIn) (present code (keptCode (now (value .entry)) kept))))
+        (now (out .entry)) ⌝ }
 {
     if kept.there {
         let place = kept.place;
@@ -109,7 +121,11 @@ fn write_code(value: &[u8], kept: Kept, out: &mut [u8]) -> usize
 fn write_ssn(value: &[u8], kept: Kept, out: &mut [u8]) -> usize
     requires { ⌜ HeldIn (now value) 4 kept ⌝ }
     requires { ⌜ Ready (each (subParam builtIn) (present sub (keptSub (now value) kept))) (now out) ⌝ }
-    ensures { λ r. ⌜ record { answer = accepted r; buffer = now (out .exit) } ≡ deliver (mapped runOctets (each (subParam builtIn) (present sub (keptSub (now (value .entry)) kept)))) (now (out .entry)) ⌝ }
+    ensures { λ r. ⌜
+        delivered (accepted r) (now (out .exit))
+        ≡ deliver
+        (mapped runOctets (each (subParam builtIn) (present sub (keptSub (now (value .entry)) kept))))
+        (now (out .entry)) ⌝ }
 {
     if kept.there {
         let place = kept.place;
@@ -143,7 +159,9 @@ fn write_other(value: &[u8], place: Place, out: &mut [u8]) -> usize
     requires { ⌜ place .start + place .length ≤ length (now value) ⌝ }
     requires { ⌜ place .length ≤ mostValue ⌝ }
     requires { ⌜ runLength (map (valued (now value)) (otherPlaces (place ∷ []))) ≤ length (now out) ⌝ }
-    ensures { λ r. ⌜ record { answer = accepted r; buffer = now (out .exit) } ≡ deliver (accepted (runOctets (map (valued (now (value .entry))) (otherPlaces (place ∷ []))))) (now (out .entry)) ⌝ }
+    ensures { λ r. ⌜
+        delivered (accepted r) (now (out .exit))
+        ≡ deliver (accepted (runOctets (map (valued (now (value .entry))) (otherPlaces (place ∷ []))))) (now (out .entry)) ⌝ }
 {
     let tag = place.tag;
     if is_other(tag) {
@@ -160,7 +178,9 @@ fn write_other(value: &[u8], place: Place, out: &mut [u8]) -> usize
 fn write_others(value: &[u8], parts: Parts, out: &mut [u8])
     requires { ⌜ Walked (now value) parts ⌝ }
     requires { ⌜ parts .«other_length» ≤ length (now out) ⌝ }
-    ensures { λ _. ⌜ now (out .exit) ≡ othersOctets (now (value .entry)) ++ drop (length (othersOctets (now (value .entry)))) (now (out .entry)) ⌝ }
+    ensures { λ _. ⌜
+        now (out .exit)
+        ≡ othersOctets (now (value .entry)) ++ drop (length (othersOctets (now (value .entry)))) (now (out .entry)) ⌝ }
 {
     let mut c = Cursor { at: 4 };
     let mut at: usize = 0;
@@ -198,7 +218,9 @@ fn write_head(value: &[u8], out: &mut [u8])
 fn write(value: &[u8], parts: Parts, total: usize, out: &mut [u8])
     requires { ⌜ Plan (now value) parts total ⌝ }
     requires { ⌜ total ≤ length (now out) ⌝ }
-    ensures { λ _. ⌜ record { answer = accepted total; buffer = now (out .exit) } ≡ deliver (after (readAddress builtIn (now (value .entry))) (writeAddress builtIn 0)) (now (out .entry)) ⌝ }
+    ensures { λ _. ⌜
+        delivered (accepted total) (now (out .exit))
+        ≡ deliver (after (readAddress builtIn (now (value .entry))) (writeAddress builtIn 0)) (now (out .entry)) ⌝ }
 {
     let kept = parts.title;
     let code = parts.code;
@@ -212,7 +234,9 @@ fn write(value: &[u8], parts: Parts, total: usize, out: &mut [u8])
 
 // Reads an address value and writes it again. Reading's refusals, then 9, then 10, then 14.
 pub fn rewrite(tag: u16, value: &[u8], out: &mut [u8]) -> Counted
-    ensures { λ r. ⌜ record { answer = countedOf r; buffer = now (out .exit) } ≡ deliver (after (readAddress builtIn (now (value .entry))) (writeAddress builtIn tag)) (now (out .entry)) ⌝ }
+    ensures { λ r. ⌜
+        delivered (countedOf r) (now (out .exit))
+        ≡ deliver (after (readAddress builtIn (now (value .entry))) (writeAddress builtIn tag)) (now (out .entry)) ⌝ }
 {
     match plan(true, tag, value) {
         Planned::Refused(r) => Counted::Refused(r),

@@ -4,12 +4,12 @@ use bcd::error::Counted;
 use bcd::error::Refusal;
 ghost use mathlib.Core.Path.{_≡_};
 ghost use lib.ListN.{length};
-ghost use Rattle.bcd.specs.Outcome.{after, deliver};
+ghost use Rattle.bcd.specs.Outcome.{after, delivered, deliver};
 ghost use Rattle.bcd.specs.Answers.{refusalOf, countedOf};
 ghost use Rattle.bcd.specs.Digits.{builtIn};
 ghost use Rattle.address.specs.Address.{readTitle, writeTitle};
 ghost use Rattle.address.specs.Records.{titleGiven};
-ghost use Rattle.address.specs.Titles.{verdictOf, titleAnswer, titleRefused};
+ghost use Rattle.address.specs.Titles.{verdictOf, titled, titleAnswer, titleRefused};
 
 // Whether a value was read, or why not.
 pub enum Verdict {
@@ -24,7 +24,7 @@ pub struct TitleRead {
 }
 
 fn refused(r: Refusal) -> TitleRead
-    ensures { λ t. ⌜ record { answer = verdictOf (t .verdict); title = t .title } ≡ titleRefused (refusalOf r) ⌝ }
+    ensures { λ t. ⌜ titled (verdictOf (t .verdict)) (t .title) ≡ titleRefused (refusalOf r) ⌝ }
 {
     TitleRead {
         verdict: Verdict::Refused(r),
@@ -35,7 +35,9 @@ fn refused(r: Refusal) -> TitleRead
 impl GlobalTitle {
     // Reads a title from the value of its sub-parameter. 12, 1.
     pub fn decode(value: &[u8]) -> TitleRead
-        ensures { λ r. ⌜ record { answer = verdictOf (r .verdict); title = r .title } ≡ titleAnswer (readTitle builtIn (now (value .entry))) ⌝ }
+        ensures { λ r. ⌜
+            titled (verdictOf (r .verdict)) (r .title)
+            ≡ titleAnswer (readTitle builtIn (now (value .entry))) ⌝ }
     {
         let n = value.len();
         if 1048576 < n {
@@ -61,7 +63,9 @@ impl GlobalTitle {
 
     // Writes the value of a title's sub-parameter; the count is of the digits that are there. 11, 9, 14.
     pub fn encode(self, out: &mut [u8]) -> Counted
-        ensures { λ r. ⌜ record { answer = countedOf r; buffer = now (out .exit) } ≡ deliver (after (titleGiven self) (writeTitle builtIn)) (now (out .entry)) ⌝ }
+        ensures { λ r. ⌜
+            delivered (countedOf r) (now (out .exit))
+            ≡ deliver (after (titleGiven self) (writeTitle builtIn)) (now (out .entry)) ⌝ }
     {
         let count = self.count;
         if 255 < count {

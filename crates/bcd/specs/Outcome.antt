@@ -68,8 +68,8 @@ delivered answer buffer = record { answer = answer; buffer = buffer }
 -- Octets that fit stand in front of what the buffer held beyond them, and their number is answered. Octets that do not
 -- fit are refused as 14 with the length needed, and a refusal leaves the buffer as it was (document 01, 'Agreement on contracts').
 unfoldable pub deliver : Outcome (List ℕ) → List ℕ → Delivered
-deliver (refused n vs) out = record { answer = refused n vs; buffer = out }
+deliver (refused n vs) out = delivered (refused n vs) out
 deliver (accepted os) out =
     pick (leb (length os) (length out))
-    (record { answer = accepted (length os); buffer = os ++ drop (length os) out })
-    (record { answer = refused 14 (length os ∷ []); buffer = out })
+    (delivered (accepted (length os)) (os ++ drop (length os) out))
+    (delivered (refused 14 (length os ∷ [])) out)

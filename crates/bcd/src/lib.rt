@@ -85,7 +85,9 @@ fn octet_at(digits: &[u8], k: usize) -> u8
 fn pack_digits(digits: &[u8], n: usize, out: &mut [u8])
     requires { ⌜ accepted n ≡ mapped length (writeDigits builtIn (now digits)) ⌝ }
     requires { ⌜ n ≤ length (now out) ⌝ }
-    ensures { λ _. ⌜ record { answer = accepted n; buffer = now (out .exit) } ≡ deliver (writeDigits builtIn (now (digits .entry))) (now (out .entry)) ⌝ }
+    ensures { λ _. ⌜
+        delivered (accepted n) (now (out .exit))
+        ≡ deliver (writeDigits builtIn (now (digits .entry))) (now (out .entry)) ⌝ }
 {
     let mut k = 0;
     while k < n {
@@ -128,7 +130,9 @@ fn digit_at(bytes: &[u8], i: usize) -> u8
 fn unpack_digits(bytes: &[u8], n: usize, out: &mut [u8])
     requires { ⌜ n ≤ 2 * length (now bytes) ⌝ }
     requires { ⌜ n ≤ length (now out) ⌝ }
-    ensures { λ _. ⌜ record { answer = accepted n; buffer = now (out .exit) } ≡ deliver (accepted (digitsIn builtIn (now (bytes .entry)) n)) (now (out .entry)) ⌝ }
+    ensures { λ _. ⌜
+        delivered (accepted n) (now (out .exit))
+        ≡ deliver (accepted (digitsIn builtIn (now (bytes .entry)) n)) (now (out .entry)) ⌝ }
 {
     let mut i = 0;
     while i < n {
@@ -146,7 +150,9 @@ pub fn smaller(a: usize, b: usize) -> usize
 
 // Reads digits: as many as the count says, or as there are. 12.
 pub fn decode_gt_digits(bytes: &[u8], num_digits: u8) -> GtDigits
-    ensures { λ r. ⌜ record { answer = countedOf (r .answer); buffer = r .digits } ≡ deliver (readDigits builtIn (now (bytes .entry)) «num_digits») (replicate 255 0) ⌝ }
+    ensures { λ r. ⌜
+        delivered (countedOf (r .answer)) (r .digits)
+        ≡ deliver (readDigits builtIn (now (bytes .entry)) «num_digits») (replicate 255 0) ⌝ }
 {
     let mut digits = [0u8; 255];
     let given = bytes.len();

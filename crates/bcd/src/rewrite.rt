@@ -14,7 +14,9 @@ ghost use Rattle.bcd.specs.Digits.{halves, pack, builtIn, digitsIn, read
 fn unknown(bytes: &[u8], n: usize) -> bool
     requires { ⌜ n ≤ 2 * length (now bytes) ⌝ }
     requires { ⌜ n ≤ 255 ⌝ }
-    ensures { λ r. ⌜ writeDigits builtIn (digitsIn builtIn (now (bytes .entry)) n) ≡ pick r (refused 9 (0x3F ∷ [])) (accepted (pack (take n (halves (now (bytes .entry)))))) ⌝ }
+    ensures { λ r. ⌜
+        writeDigits builtIn (digitsIn builtIn (now (bytes .entry)) n)
+        ≡ pick r (refused 9 (0x3F ∷ [])) (accepted (pack (take n (halves (now (bytes .entry)))))) ⌝ }
 {
     let whole = n / 2;
     let mut i = 0;
@@ -39,7 +41,9 @@ fn unknown(bytes: &[u8], n: usize) -> bool
 
 // How many octets digits take when they are read and written again. 12, 9.
 pub fn rewritten_digits_length(bytes: &[u8], num_digits: u8) -> Counted
-    ensures { λ r. ⌜ countedOf r ≡ mapped length (after (readDigits builtIn (now (bytes .entry)) «num_digits») (writeDigits builtIn)) ⌝ }
+    ensures { λ r. ⌜
+        countedOf r
+        ≡ mapped length (after (readDigits builtIn (now (bytes .entry)) «num_digits») (writeDigits builtIn)) ⌝ }
 {
     let given = bytes.len();
     if 1048576 < given {

@@ -19,12 +19,15 @@ pub record Listed : Type 0 where
   pub answer : Outcome SuaMessage
   pub table : Table
 
+-- An answer beside what the table then holds.
+abbrev pub listed : Outcome SuaMessage → Table → Listed
+listed answer held = record { answer = answer; table = held }
+
 -- The header's refusals, then 5 or 6 in wire order, then 13 (document 01, 'Order'); the record has the type that the header
 -- names and the number of the places stored.
 unfoldable pub listMessage : List ℕ → Table → Listed
 listMessage xs t =
     let stored : Tabulated = tabulate (messagePlaces xs) t in
-    record {
-      answer = after (readHeader xs) (λ h. mapped (λ n. record { «message_type» = h .«message_type»; count = n }) (stored .answer));
-      table = stored .table;
-    }
+    listed
+    (after (readHeader xs) (λ h. mapped (λ n. record { «message_type» = h .«message_type»; count = n }) (stored .answer)))
+    (stored .table)

@@ -5,7 +5,7 @@ ghost use mathlib.Core.Path.{_≡_};
 ghost use Prim.Native.Nat.{_+_, _≤_, _<_};
 ghost use mathlib.Core.List.{[], _∷_};
 ghost use lib.ListN.{length, drop};
-ghost use Rattle.bcd.specs.Outcome.{accepted, refused, deliver};
+ghost use Rattle.bcd.specs.Outcome.{accepted, refused, delivered, deliver};
 ghost use Rattle.bcd.specs.Answers.{countedOf};
 ghost use Rattle.parameter.specs.Parameter.{fourIn};
 ghost use Rattle.message.specs.Types.{fromOctet, fromClassType, classAndType, classOf, classReadOf, typeReadOf};
@@ -350,7 +350,7 @@ impl CommonHeader {
 
     // Writes a header with the version and the length that it holds. 14.
     pub fn encode(self, out: &mut [u8]) -> Counted
-        ensures { λ r. ⌜ record { answer = countedOf r; buffer = now (out .exit) } ≡ deliver (writeHeader self) (now (out .entry)) ⌝ }
+        ensures { λ r. ⌜ delivered (countedOf r) (now (out .exit)) ≡ deliver (writeHeader self) (now (out .entry)) ⌝ }
     {
         if out.len() < Self::SIZE {
             return Counted::Refused(Refusal::OutputTooSmall(Self::SIZE));

@@ -9,11 +9,11 @@ use header::MessageType;
 ghost use mathlib.Core.Path.{_≡_};
 ghost use Prim.Native.Nat.{_≤_};
 ghost use lib.ListN.{length};
-ghost use Rattle.bcd.specs.Outcome.{after, deliver};
+ghost use Rattle.bcd.specs.Outcome.{after, delivered, deliver};
 ghost use Rattle.bcd.specs.Answers.{countedOf};
-ghost use Rattle.parameter.specs.Table.{Table, records};
-ghost use Rattle.message.specs.Message.{writeMessage};
-ghost use Rattle.message.specs.Listing.{Listed, listMessage, messageReadOf};
+ghost use Rattle.parameter.specs.Table.{table, records};
+ghost use Rattle.message.specs.Message.{message, writeMessage};
+ghost use Rattle.message.specs.Listing.{listed, listMessage, messageReadOf};
 
 // A message's type and the number of its parameters: the first records of a lent table.
 pub struct SuaMessage {
@@ -36,7 +36,9 @@ impl SuaMessage {
         starts: &mut [usize],
         lengths: &mut [usize],
     ) -> MessageRead
-        ensures { λ r. ⌜ record { answer = messageReadOf r; table = record { tags = now (tags .exit); starts = now (starts .exit); lengths = now (lengths .exit) } } ≡ listMessage (now (bytes .entry)) (record { tags = now (tags .entry); starts = now (starts .entry); lengths = now (lengths .entry) }) ⌝ }
+        ensures { λ r. ⌜
+            listed (messageReadOf r) (table (now (tags .exit)) (now (starts .exit)) (now (lengths .exit)))
+            ≡ listMessage (now (bytes .entry)) (table (now (tags .entry)) (now (starts .entry)) (now (lengths .entry))) ⌝ }
     {
         match CommonHeader::decode(bytes) {
             HeaderRead::Refused(r) => MessageRead::Refused(r),
@@ -62,7 +64,13 @@ impl SuaMessage {
         lengths: &[usize],
         out: &mut [u8],
     ) -> Counted
-        ensures { λ r. ⌜ record { answer = countedOf r; buffer = now (out .exit) } ≡ deliver (after (records (now (values .entry)) (record { tags = now (tags .entry); starts = now (starts .entry); lengths = now (lengths .entry) }) (self .count)) (λ ps. writeMessage (record { type = self .«message_type»; params = ps }))) (now (out .entry)) ⌝ }
+        ensures { λ r. ⌜
+            delivered (countedOf r) (now (out .exit))
+            ≡ deliver
+            (after
+            (records (now (values .entry)) (table (now (tags .entry)) (now (starts .entry)) (now (lengths .entry))) (self .count))
+            (λ ps. writeMessage (message (self .«message_type») ps)))
+            (now (out .entry)) ⌝ }
     {
         let message_type = self.message_type;
         let count = self.count;

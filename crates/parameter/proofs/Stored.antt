@@ -13,7 +13,7 @@ use Rattle.bcd.specs.Outcome.{accepted, refused, pick, each, All}
 use Rattle.bcd.proofs.Outcomes.{accepted-inj, never, each-cons}
 use Rattle.parameter.specs.declared.Place.{Place}
 use Rattle.parameter.specs.Walk.{valued}
-use Rattle.parameter.specs.Table.{Table, Tabulated, room, over, tabulate, rows, recordIn, records}
+use Rattle.parameter.specs.Table.{Table, Tabulated, tabulated, room, over, tabulate, rows, recordIn, records}
 use Rattle.parameter.specs.Facts.{Stored}
 use Rattle.parameter.proofs.Filling.{tagOf, startOf, lengthOf}
 use Rattle.parameter.proofs.Records.{record-inside}
@@ -51,7 +51,7 @@ table-records values ps t h =
 pub stored-records :
     (values : List ℕ) (ps : List Place) (t held : Table) (n : ℕ)
     → All (λ (p : Place). p .start + p .length ≤ length values) ps
-    → record { answer = accepted n; table = held } ≡ tabulate (accepted ps) t
+    → tabulated (accepted n) held ≡ tabulate (accepted ps) t
     → Stored values ps held n
 unfolding tabulate
 stored-records values ps t held n h e = go (leb (length ps) (room t)) e

@@ -11,6 +11,10 @@ pub record Param : Type 0 where
   pub tag : ℕ
   pub value : List ℕ
 
+-- The parameter of a tag and a value.
+abbrev pub param : ℕ → List ℕ → Param
+param tag value = record { tag = tag; value = value }
+
 -- A 16-bit number, the high octet first (RFC 3868, 3.1).
 abbrev pub two : ℕ → List ℕ
 two n = n / 256 ∷ n % 256 ∷ []
@@ -69,7 +73,7 @@ unfoldable pub frameParam : (tag n : ℕ) → (held : List ℕ) → Outcome (Lis
 frameParam tag n held =
     demand (leb n mostValue) 10 (tag ∷ n ∷ [])
     (demand (leb (paddedLength n) (length held)) 14 (paddedLength n ∷ [])
-    (accepted (paramOctets (record { tag = tag; value = take n (drop 4 held) }))))
+    (accepted (paramOctets (param tag (take n (drop 4 held))))))
 
 -- A value as a number: its first four octets; none under four (document 01, 'Order').
 unfoldable pub numberIn : List ℕ → Option ℕ

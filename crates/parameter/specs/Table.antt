@@ -38,18 +38,15 @@ over xs held = xs ++ drop (length xs) held
 -- Places that fit are stored from the front, and their number is answered. Places that do not fit are refused as 13 with
 -- the count needed, and a refusal leaves the table as it was (document 01, 'Agreement on contracts').
 unfoldable pub tabulate : Outcome (List Place) → Table → Tabulated
-tabulate (refused n vs) t = record { answer = refused n vs; table = t }
+tabulate (refused n vs) t = tabulated (refused n vs) t
 tabulate (accepted ps) t =
     pick (leb (length ps) (room t))
-    (record {
-      answer = accepted (length ps);
-      table = record {
-        tags = over (map (λ p. p .tag) ps) (t .tags);
-        starts = over (map (λ p. p .start) ps) (t .starts);
-        lengths = over (map (λ p. p .length) ps) (t .lengths);
-      };
-    })
-    (record { answer = refused 13 (length ps ∷ []); table = t })
+    (tabulated (accepted (length ps))
+    (table
+    (over (map (λ p. p .tag) ps) (t .tags))
+    (over (map (λ p. p .start) ps) (t .starts))
+    (over (map (λ p. p .length) ps) (t .lengths))))
+    (tabulated (refused 13 (length ps ∷ [])) t)
 
 -- The records of a table, row by row.
 unfoldable pub rows : List ℕ → List ℕ → List ℕ → List Place

@@ -4,7 +4,7 @@ use mathlib.Core.List.{List, [], _∷_, map}
 use lib.ListN.{length, take, drop}
 use lib.Dec.{leb, ltb}
 use Rattle.bcd.specs.Outcome.{Outcome, accepted, refused, pick, after, demand, mapped}
-use Rattle.parameter.specs.Parameter.{Param, twoAt, paddedLength}
+use Rattle.parameter.specs.Parameter.{Param, param, twoAt, paddedLength}
 use Rattle.parameter.specs.declared.Place.{Place}
 
 -- What stands at a position: no more parameters, or a parameter's place and where the next one starts.
@@ -43,7 +43,7 @@ places xs at = steps (length xs) xs at
 
 -- The parameter at a place: its value is that part of the octets.
 abbrev pub valued : List ℕ → Place → Param
-valued xs p = record { tag = p .tag; value = take (p .length) (drop (p .start) xs) }
+valued xs p = param (p .tag) (take (p .length) (drop (p .start) xs))
 
 -- The parameters of a run: each tag with its value.
 unfoldable pub parameters : List ℕ → Outcome (List Param)

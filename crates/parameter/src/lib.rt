@@ -7,11 +7,12 @@ ghost use mathlib.Core.Path.{_≡_};
 ghost use mathlib.Core.List.{List, [], _++_, map};
 ghost use Prim.Native.Nat.{ℕ, _+_, _*_, _≤_};
 ghost use lib.ListN.{length, replicate, take, drop};
-ghost use Rattle.bcd.specs.Outcome.{accepted, refused, pick, after, mapped, each, bounded, fit64, deliver};
+ghost use Rattle.bcd.specs.Outcome.{accepted, refused, pick, after, mapped, each, bounded, fit64, delivered, deliver};
 ghost use Rattle.bcd.specs.Answers.{countedOf};
-ghost use Rattle.parameter.specs.Parameter.{Param, two, roundUp, paddedLength, paramOctets, mostValue, encodeParam, encodeParams, wireLength, frameParam, numberIn};
+ghost use Rattle.parameter.specs.Parameter.{param, two, roundUp, paddedLength, paramOctets, mostValue};
+ghost use Rattle.parameter.specs.Parameter.{encodeParam, encodeParams, wireLength, frameParam, numberIn};
 ghost use Rattle.parameter.specs.Walk.{stepAt, places, valued, decodeParam};
-ghost use Rattle.parameter.specs.Table.{table, tabulated, Table, Tabulated, tabulate, rows, records, findParam};
+ghost use Rattle.parameter.specs.Table.{table, tabulated, tabulate, rows, records, findParam};
 ghost use Rattle.parameter.specs.Answers.{stepOf, oneOf, numberOf, foundOf};
 
 // A parameter's tag, and where its value starts and how long it is in the octets given.
@@ -179,7 +180,9 @@ fn put_two(n: u16, out: &mut [u8])
 fn surround(tag: u16, length: usize, out: &mut [u8])
     requires { ⌜ length ≤ mostValue ⌝ }
     requires { ⌜ paddedLength length ≤ lib.ListN.length (now out) ⌝ }
-    ensures { λ _. ⌜ now (out .exit) ≡ paramOctets (record { tag = tag; value = take length (drop 4 (now (out .entry))) }) ++ drop (paddedLength length) (now (out .entry)) ⌝ }
+    ensures { λ _. ⌜
+        now (out .exit)
+        ≡ paramOctets (param tag (take length (drop 4 (now (out .entry))))) ++ drop (paddedLength length) (now (out .entry)) ⌝ }
 {
     let wire = length + 4;
     let padded = (wire + 3) / 4 * 4;
@@ -192,7 +195,9 @@ fn surround(tag: u16, length: usize, out: &mut [u8])
 fn put(tag: u16, value: &[u8], out: &mut [u8])
     requires { ⌜ length (now value) ≤ mostValue ⌝ }
     requires { ⌜ paddedLength (length (now value)) ≤ length (now out) ⌝ }
-    ensures { λ _. ⌜ now (out .exit) ≡ paramOctets (record { tag = tag; value = now (value .entry) }) ++ drop (paddedLength (length (now (value .entry)))) (now (out .entry)) ⌝ }
+    ensures { λ _. ⌜
+        now (out .exit)
+        ≡ paramOctets (param tag (now (value .entry))) ++ drop (paddedLength (length (now (value .entry)))) (now (out .entry)) ⌝ }
 {
     bytes::copy(value, &mut out[4..]);
     surround(tag, value.len(), out);
@@ -200,7 +205,9 @@ fn put(tag: u16, value: &[u8], out: &mut [u8])
 
 // Writes one parameter. 10, 14.
 pub fn encode(tag: u16, value: &[u8], out: &mut [u8]) -> Counted
-    ensures { λ r. ⌜ record { answer = countedOf r; buffer = now (out .exit) } ≡ deliver (encodeParam (record { tag = tag; value = now (value .entry) })) (now (out .entry)) ⌝ }
+    ensures { λ r. ⌜
+        delivered (countedOf r) (now (out .exit))
+        ≡ deliver (encodeParam (param tag (now (value .entry)))) (now (out .entry)) ⌝ }
 {
     match wire_length(tag, value.len()) {
         Counted::Refused(r) => Counted::Refused(r),
@@ -216,7 +223,9 @@ pub fn encode(tag: u16, value: &[u8], out: &mut [u8]) -> Counted
 
 // Writes tag, length and padding round a value of this length that stands at the fifth octet of the output. 10, 14.
 pub fn frame(tag: u16, length: usize, out: &mut [u8]) -> Counted
-    ensures { λ r. ⌜ record { answer = countedOf r; buffer = now (out .exit) } ≡ deliver (frameParam tag length (now (out .entry))) (now (out .entry)) ⌝ }
+    ensures { λ r. ⌜
+        delivered (countedOf r) (now (out .exit))
+        ≡ deliver (frameParam tag length (now (out .entry))) (now (out .entry)) ⌝ }
 {
     match wire_length(tag, length) {
         Counted::Refused(r) => Counted::Refused(r),
@@ -269,7 +278,10 @@ fn fill(
     requires { ⌜ count ≤ length (now tags) ⌝ }
     requires { ⌜ count ≤ length (now starts) ⌝ }
     requires { ⌜ count ≤ length (now lengths) ⌝ }
-    ensures { λ _. ⌜ record { answer = accepted count; table = record { tags = now (tags .exit); starts = now (starts .exit); lengths = now (lengths .exit) } } ≡ tabulate (bounded (now (bytes .entry)) (places (now (bytes .entry)) from)) (record { tags = now (tags .entry); starts = now (starts .entry); lengths = now (lengths .entry) }) ⌝ }
+    ensures { λ _. ⌜
+        tabulated (accepted count) (table (now (tags .exit)) (now (starts .exit)) (now (lengths .exit)))
+        ≡ tabulate (bounded (now (bytes .entry)) (places (now (bytes .entry)) from))
+        (table (now (tags .entry)) (now (starts .entry)) (now (lengths .entry))) ⌝ }
 {
     let mut c = Cursor { at: from };
     let mut n: usize = 0;
@@ -300,7 +312,10 @@ pub fn decode_parameters_from(
     starts: &mut [usize],
     lengths: &mut [usize],
 ) -> Counted
-    ensures { λ r. ⌜ record { answer = countedOf r; table = record { tags = now (tags .exit); starts = now (starts .exit); lengths = now (lengths .exit) } } ≡ tabulate (bounded (now (bytes .entry)) (places (now (bytes .entry)) from)) (record { tags = now (tags .entry); starts = now (starts .entry); lengths = now (lengths .entry) }) ⌝ }
+    ensures { λ r. ⌜
+        tabulated (countedOf r) (table (now (tags .exit)) (now (starts .exit)) (now (lengths .exit)))
+        ≡ tabulate (bounded (now (bytes .entry)) (places (now (bytes .entry)) from))
+        (table (now (tags .entry)) (now (starts .entry)) (now (lengths .entry))) ⌝ }
 {
     match count(bytes, from) {
         Counted::Refused(refusal) => Counted::Refused(refusal),
@@ -355,7 +370,11 @@ pub fn outside(
     lengths: &[usize],
     count: usize,
 ) -> bool
-    ensures { λ r. ⌜ records (now (values .entry)) (record { tags = now (tags .entry); starts = now (starts .entry); lengths = now (lengths .entry) }) count ≡ pick r (refused 15 []) (accepted (map (valued (now (values .entry))) (take count (rows (now (tags .entry)) (now (starts .entry)) (now (lengths .entry)))))) ⌝ }
+    ensures { λ r. ⌜
+        records (now (values .entry)) (table (now (tags .entry)) (now (starts .entry)) (now (lengths .entry))) count
+        ≡ pick r (refused 15 [])
+        (accepted (map (valued (now (values .entry)))
+        (take count (rows (now (tags .entry)) (now (starts .entry)) (now (lengths .entry)))))) ⌝ }
 {
     if tags.len() < count {
         return true;
@@ -389,7 +408,12 @@ pub fn parameters_length(
     lengths: &[usize],
     count: usize,
 ) -> Counted
-    ensures { λ r. ⌜ countedOf r ≡ mapped (λ (os : List ℕ). fit64 (length os)) (after (records (now (values .entry)) (record { tags = now (tags .entry); starts = now (starts .entry); lengths = now (lengths .entry) }) count) (each encodeParam)) ⌝ }
+    ensures { λ r. ⌜
+        countedOf r
+        ≡ mapped (λ (os : List ℕ). fit64 (length os))
+        (after
+        (records (now (values .entry)) (table (now (tags .entry)) (now (starts .entry)) (now (lengths .entry))) count)
+        (each encodeParam)) ⌝ }
 {
     if outside(values, tags, starts, lengths, count) {
         return Counted::Refused(Refusal::OutsideSlice);
@@ -418,9 +442,17 @@ fn write_run(
     total: usize,
     out: &mut [u8],
 )
-    requires { ⌜ accepted total ≡ mapped length (after (records (now values) (record { tags = now tags; starts = now starts; lengths = now lengths }) count) (each encodeParam)) ⌝ }
+    requires { ⌜
+        accepted total
+        ≡ mapped length (after (records (now values) (table (now tags) (now starts) (now lengths)) count) (each encodeParam)) ⌝ }
     requires { ⌜ total ≤ length (now out) ⌝ }
-    ensures { λ _. ⌜ record { answer = accepted total; buffer = now (out .exit) } ≡ deliver (after (records (now (values .entry)) (record { tags = now (tags .entry); starts = now (starts .entry); lengths = now (lengths .entry) }) count) (each encodeParam)) (now (out .entry)) ⌝ }
+    ensures { λ _. ⌜
+        delivered (accepted total) (now (out .exit))
+        ≡ deliver
+        (after
+        (records (now (values .entry)) (table (now (tags .entry)) (now (starts .entry)) (now (lengths .entry))) count)
+        (each encodeParam))
+        (now (out .entry)) ⌝ }
 {
     let mut at: usize = 0;
     let mut i = 0;
@@ -443,7 +475,13 @@ pub fn encode_parameters(
     count: usize,
     out: &mut [u8],
 ) -> Counted
-    ensures { λ r. ⌜ record { answer = countedOf r; buffer = now (out .exit) } ≡ deliver (after (records (now (values .entry)) (record { tags = now (tags .entry); starts = now (starts .entry); lengths = now (lengths .entry) }) count) encodeParams) (now (out .entry)) ⌝ }
+    ensures { λ r. ⌜
+        delivered (countedOf r) (now (out .exit))
+        ≡ deliver
+        (after
+        (records (now (values .entry)) (table (now (tags .entry)) (now (starts .entry)) (now (lengths .entry))) count)
+        encodeParams)
+        (now (out .entry)) ⌝ }
 {
     match parameters_length(values, tags, starts, lengths, count) {
         Counted::Refused(r) => Counted::Refused(r),
@@ -469,7 +507,9 @@ pub fn find_parameter(
     count: usize,
     tag: u16,
 ) -> Found
-    ensures { λ r. ⌜ foundOf r ≡ findParam (now (values .entry)) (record { tags = now (tags .entry); starts = now (starts .entry); lengths = now (lengths .entry) }) count tag ⌝ }
+    ensures { λ r. ⌜
+        foundOf r
+        ≡ findParam (now (values .entry)) (table (now (tags .entry)) (now (starts .entry)) (now (lengths .entry))) count tag ⌝ }
 {
     if outside(values, tags, starts, lengths, count) {
         return Found::Refused(Refusal::OutsideSlice);

@@ -19,7 +19,8 @@
  *         actual)
  *      8  routing indicator above 4 (indicator)
  *
- * A refusal leaves the output as it was; nothing is written past the octets that are answered.
+ * A refusal leaves the output as it was; nothing is written past the octets that are answered. The report alone is written
+ * by every call, refused or not.
  */
 #ifndef SUA_H
 #define SUA_H
@@ -35,6 +36,8 @@ extern "C" {
  * The settled form of a message: it is read, the value of every source and destination address is read and written
  * again, and the message is encoded. Refusals in order: 12, 1, 2, 4, 5 or 6 in wire order; then for each address in wire
  * order 1, 8, 5 or 6 of its walk, each sub-parameter's 1 or 6, 9, 10; then 14.
+ *
+ * A form is never longer than the input, rounded up to a multiple of 4: an output of that length is always long enough.
  */
 uint64_t sua_settle(const uint8_t *input, size_t input_len,
                     uint8_t *out, size_t out_len,
@@ -55,6 +58,9 @@ uint64_t sua_settle(const uint8_t *input, size_t input_len,
  *
  * Refusals in order: 12, 1, 2, 4, 5 or 6 in wire order; then for each address in wire order 1, 8, 5 or 6 of its walk, each
  * sub-parameter's 1 or 6; then 14.
+ *
+ * An account has at most 5 octets for each 2 of the input, and at most 2,621,426; it may pass 1,048,576 octets, which is no
+ * 12. 14 tells the length needed.
  */
 uint64_t sua_read(const uint8_t *input, size_t input_len,
                   uint8_t *out, size_t out_len,
@@ -65,7 +71,10 @@ uint64_t sua_read(const uint8_t *input, size_t input_len,
  *
  *     for each parameter   tag (2 octets), length of the value (4), value
  *
- * Refusals in order: 4, 15, 10 in order, 12, 14.
+ * Refusals in order: 4, 15, 10 in order, 12, 14. 12 is the message's: the list itself may be longer than 1,048,576 octets.
+ *
+ * A message has at most 8 octets more than the list and one more for each parameter, and at most 1,048,576. 14 tells the
+ * length needed.
  */
 uint64_t sua_encode(uint8_t message_class, uint8_t message_type,
                     const uint8_t *list, size_t list_len,

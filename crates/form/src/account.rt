@@ -294,7 +294,8 @@ fn params(input: &[u8], out: &mut [u8]) -> Accounts
     Accounts { end: sum, count: n }
 }
 
-// Writes the account of a message. Reading's refusals, then each address's in wire order, then 14.
+// Writes the account of a message. Reading's refusals, then each address's in wire order, then 14. The account is a table, so
+// it is not bounded as octets written are: it has at most 10 octets for each 4 of the parameters.
 pub fn read(input: &[u8], out: &mut [u8]) -> Counted
     ensures { λ r. ⌜ record { answer = countedOf r; buffer = now (out .exit) } ≡ deliver (account builtIn (now (input .entry))) (now (out .entry)) ⌝ }
 {

@@ -73,7 +73,8 @@ fn store(answer: Counted, report: &mut [u64]) -> u64
     list[0]
 }
 
-// Writes the settled form of a message. Reading's refusals, then each address's, 9, 10 in wire order, then 14.
+// Writes the settled form of a message. Reading's refusals, then each address's, 9, 10 in wire order, then 14. The report is
+// written by every call, refused or not, here and below.
 #[no_mangle]
 pub extern "C" fn sua_settle(input: &[u8], out: &mut [u8], report: &mut [u64]) -> u64
     ensures { λ r. ⌜ record { number = r; buffer = now (out .exit); report = now (report .exit) } ≡ entered (deliver (settled builtIn (now (input .entry))) (now (out .entry))) (now (report .entry)) ⌝ }
@@ -81,7 +82,8 @@ pub extern "C" fn sua_settle(input: &[u8], out: &mut [u8], report: &mut [u64]) -
     store(settle(input, out), report)
 }
 
-// Writes a flat account of a message with its addresses. Reading's refusals, then each address's in wire order, then 14.
+// Writes a flat account of a message with its addresses, of at most 2,621,426 octets. Reading's refusals, then each
+// address's in wire order, then 14.
 #[no_mangle]
 pub extern "C" fn sua_read(input: &[u8], out: &mut [u8], report: &mut [u64]) -> u64
     ensures { λ r. ⌜ record { number = r; buffer = now (out .exit); report = now (report .exit) } ≡ entered (deliver (account builtIn (now (input .entry))) (now (out .entry))) (now (report .entry)) ⌝ }
@@ -89,7 +91,8 @@ pub extern "C" fn sua_read(input: &[u8], out: &mut [u8], report: &mut [u64]) -> 
     store(read(input, out), report)
 }
 
-// Writes the message of a class, a type and a flat list of parameters. 4, 15, 10 in order, 12, 14.
+// Writes the message of a class, a type and a flat list of parameters. 4, 15, 10 in order, 12, 14. 12 is the message's; the
+// list has no bound of its own.
 #[no_mangle]
 pub extern "C" fn sua_encode(
     class: u8,

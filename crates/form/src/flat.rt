@@ -1,5 +1,5 @@
 // A message written from a flat list: for each parameter its tag (2 octets), the length of its value (4 octets) and the
-// value.
+// value. The list holds records and their values, and has no bound of its own.
 use crate::be32;
 use bcd::error::Counted;
 use bcd::error::Refusal;
@@ -153,7 +153,7 @@ fn encode_typed(message_type: MessageType, list: &[u8], out: &mut [u8]) -> Count
     }
 }
 
-// Writes the message of a class, a type and a flat list. 4, 15, 10 in order, 12, 14.
+// Writes the message of a class, a type and a flat list. 4, 15, 10 in order, 12 (the message's), 14.
 pub fn encode(class: u8, msg_type: u8, list: &[u8], out: &mut [u8]) -> Counted
     ensures { λ r. ⌜ record { answer = countedOf r; buffer = now (out .exit) } ≡ deliver (encodeFlat class «msg_type» (now (list .entry))) (now (out .entry)) ⌝ }
 {

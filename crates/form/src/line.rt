@@ -153,7 +153,7 @@ fn put_form(form: &[u8], n: usize, out: &mut [u8])
     bytes::copy(b"))\n", &mut out[last..]);
 }
 
-// Writes a form's line. 12, 14.
+// Writes a form's line. 12 above 1,048,576 octets of the form, then 14; the line has at most 2,359,313 characters.
 pub fn form_line(form: &[u8], out: &mut [u8]) -> Counted
     ensures { λ r. ⌜ record { answer = countedOf r; buffer = now (out .exit) } ≡ deliver (formLine (now (form .entry))) (now (out .entry)) ⌝ }
 {

@@ -3,3 +3,4 @@ pub mod Headers
 pub mod Framing
 pub mod Messages
 pub mod Listing
+pub mod PointCodes

@@ -4,3 +4,4 @@ pub mod Framing
 pub mod Messages
 pub mod Listing
 pub mod PointCodes
+pub mod Accessing

@@ -2,3 +2,4 @@ pub mod Types
 pub mod Message
 pub mod Listing
 pub mod PointCodes
+pub mod Accessors

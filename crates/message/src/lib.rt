@@ -1,4 +1,5 @@
 // Messages, read and written (message.rs; RFC 3868, 3.1).
+pub mod accessors;
 pub mod header;
 pub mod point_codes;
 

@@ -1,0 +1,74 @@
+-- The accessors of a message: its parameters by name (RFC 3868, 3.9 and 3.10; document 01, module 6). Each takes the values,
+-- the table of records and their count; 15 looks at every record (document 01, 'Order').
+use Prim.Native.Nat.{ℕ, _/_, _%_}
+use mathlib.Core.Option.{Option, none, some}
+use mathlib.Core.List.{List}
+use lib.ListN.{length, getD}
+use lib.Dec.{leb}
+use Rattle.bcd.specs.Outcome.{Outcome, accepted, pick, mapped}
+use Rattle.bcd.specs.Answers.{refusalOf}
+use Rattle.parameter.specs.declared.Place.{Place}
+use Rattle.parameter.specs.Parameter.{fourIn}
+use Rattle.parameter.specs.Walk.{valued}
+use Rattle.parameter.specs.Table.{Table, findParam}
+use Rattle.message.specs.declared.accessors.Octet.{Octet}
+use Rattle.message.specs.declared.accessors.Octet.the-variants as O
+use Rattle.message.specs.declared.accessors.SccpCause.{SccpCause}
+use Rattle.message.specs.declared.accessors.Cause.{Cause}
+use Rattle.message.specs.declared.accessors.Cause.the-variants as C
+
+-- What a value of four octets or more reads as; nothing under four.
+abbrev pub ofFour : {A : Type 0} → (List ℕ → A) → List ℕ → Option A
+ofFour read v = pick (leb 4 (length v)) (some (read v)) none
+
+-- What the value at a place reads as, if there is one.
+abbrev pub readAt : {A : Type 0} → (List ℕ → Option A) → List ℕ → Option Place → Option A
+readAt read values none = none
+readAt read values (some p) = read (valued values p .value)
+
+-- The first parameter with a tag, read; no later one is looked at.
+unfoldable pub firstRead : {A : Type 0} → (List ℕ → Option A) → (tag : ℕ) → List ℕ → Table → (count : ℕ) → Outcome (Option A)
+firstRead read tag values t count = mapped (readAt read values) (findParam values t count tag)
+
+-- Three reserved octets and one of value (RFC 3868, 3.10).
+abbrev pub fourth : List ℕ → ℕ
+fourth v = getD v 3 0
+
+-- Two reserved octets, the cause's type and its value (RFC 3868, 3.10).
+abbrev pub causeIn : List ℕ → SccpCause
+causeIn v = record { «cause_type» = getD v 2 0; «cause_value» = getD v 3 0 }
+
+-- Routing context (RFC 3868, 3.9).
+abbrev pub routingContext : List ℕ → Table → (count : ℕ) → Outcome (Option ℕ)
+routingContext = firstRead (ofFour fourIn) 0x0006
+
+-- Protocol class, sequence control, SS7 hop counter and SCCP cause (RFC 3868, 3.10).
+abbrev pub protocolClass : List ℕ → Table → (count : ℕ) → Outcome (Option ℕ)
+protocolClass = firstRead (ofFour fourth) 0x0115
+
+abbrev pub sequenceControl : List ℕ → Table → (count : ℕ) → Outcome (Option ℕ)
+sequenceControl = firstRead (ofFour fourIn) 0x0116
+
+abbrev pub ss7HopCount : List ℕ → Table → (count : ℕ) → Outcome (Option ℕ)
+ss7HopCount = firstRead (ofFour fourth) 0x0101
+
+abbrev pub sccpCause : List ℕ → Table → (count : ℕ) → Outcome (Option SccpCause)
+sccpCause = firstRead (ofFour causeIn) 0x0106
+
+-- The fourth octet of a 32-bit number, and the third and the fourth: steps of the code.
+abbrev pub fourthOctet : ℕ → ℕ
+fourthOctet n = n % 256
+
+abbrev pub causeOctets : ℕ → SccpCause
+causeOctets n = record { «cause_type» = n / 256 % 256; «cause_value» = n % 256 }
+
+-- Which outcome each answer is.
+abbrev pub octetOf : Octet → Outcome (Option ℕ)
+octetOf (O.Value n) = accepted (some n)
+octetOf O.None = accepted none
+octetOf (O.Refused r) = refusalOf r
+
+abbrev pub causeOf : Cause → Outcome (Option SccpCause)
+causeOf (C.Value s) = accepted (some s)
+causeOf C.None = accepted none
+causeOf (C.Refused r) = refusalOf r

@@ -1,0 +1,166 @@
+// The parameters of a message by name (message.rs; RFC 3868, 3.9 and 3.10). 15 first, if any record meets it.
+use crate::SuaMessage;
+use bcd::error::Refusal;
+use parameter::Found;
+use parameter::Number;
+use parameter::tags::PROTOCOL_CLASS;
+use parameter::tags::ROUTING_CONTEXT;
+use parameter::tags::SCCP_CAUSE;
+use parameter::tags::SEQUENCE_CONTROL;
+use parameter::tags::SS7_HOP_COUNTER;
+ghost use mathlib.Core.Path.{_≡_};
+ghost use mathlib.Core.Option.{Option·map};
+ghost use Rattle.bcd.specs.Outcome.{mapped};
+ghost use Rattle.parameter.specs.Parameter.{fourIn};
+ghost use Rattle.parameter.specs.Table.{table};
+ghost use Rattle.parameter.specs.Answers.{numberOf};
+ghost use Rattle.message.specs.Accessors.{ofFour, firstRead, fourthOctet, causeOctets, routingContext, protocolClass, sequenceControl, ss7HopCount, sccpCause, octetOf, causeOf};
+
+// An octet; none where the parameter is absent or has under four octets.
+pub enum Octet {
+    Value(u8),
+    None,
+    Refused(Refusal),
+}
+
+// The type and the value of an SCCP cause.
+pub struct SccpCause {
+    pub cause_type: u8,
+    pub cause_value: u8,
+}
+
+// An SCCP cause; none where the parameter is absent or has under four octets.
+pub enum Cause {
+    Value(SccpCause),
+    None,
+    Refused(Refusal),
+}
+
+// The first four octets of the first parameter with a tag, as a number. 15.
+fn first_number(
+    values: &[u8],
+    tags: &[u16],
+    starts: &[usize],
+    lengths: &[usize],
+    count: usize,
+    tag: u16,
+) -> Number
+    ensures { λ r. ⌜
+        numberOf r ≡ firstRead (ofFour fourIn) tag (now (values .entry))
+        (table (now (tags .entry)) (now (starts .entry)) (now (lengths .entry))) count ⌝ }
+{
+    match parameter::find_parameter(values, tags, starts, lengths, count, tag) {
+        Found::Refused(r) => Number::Refused(r),
+        Found::None => Number::None,
+        Found::At(place) => {
+            if place.length < 4 {
+                return Number::None;
+            }
+            let start = place.start;
+            let end = start + 4;
+            parameter::as_u32(&values[start..end])
+        }
+    }
+}
+
+// The fourth octet of a number.
+fn fourth_octet(number: Number) -> Octet
+    ensures { λ r. ⌜ octetOf r ≡ mapped (Option·map fourthOctet) (numberOf number) ⌝ }
+{
+    match number {
+        Number::Value(n) => Octet::Value((n % 256) as u8),
+        Number::None => Octet::None,
+        Number::Refused(r) => Octet::Refused(r),
+    }
+}
+
+// The third and the fourth octet of a number.
+fn last_octets(number: Number) -> Cause
+    ensures { λ r. ⌜ causeOf r ≡ mapped (Option·map causeOctets) (numberOf number) ⌝ }
+{
+    match number {
+        Number::Value(n) => Cause::Value(SccpCause {
+            cause_type: (n / 256 % 256) as u8,
+            cause_value: (n % 256) as u8,
+        }),
+        Number::None => Cause::None,
+        Number::Refused(r) => Cause::Refused(r),
+    }
+}
+
+impl SuaMessage {
+    // The routing context. 15.
+    pub fn routing_context(
+        self,
+        values: &[u8],
+        tags: &[u16],
+        starts: &[usize],
+        lengths: &[usize],
+    ) -> Number
+        ensures { λ r. ⌜
+            numberOf r ≡ routingContext (now (values .entry))
+            (table (now (tags .entry)) (now (starts .entry)) (now (lengths .entry))) (self .count) ⌝ }
+    {
+        first_number(values, tags, starts, lengths, self.count, ROUTING_CONTEXT)
+    }
+
+    // The protocol class. 15.
+    pub fn protocol_class(
+        self,
+        values: &[u8],
+        tags: &[u16],
+        starts: &[usize],
+        lengths: &[usize],
+    ) -> Octet
+        ensures { λ r. ⌜
+            octetOf r ≡ protocolClass (now (values .entry))
+            (table (now (tags .entry)) (now (starts .entry)) (now (lengths .entry))) (self .count) ⌝ }
+    {
+        fourth_octet(first_number(values, tags, starts, lengths, self.count, PROTOCOL_CLASS))
+    }
+
+    // The sequence control. 15.
+    pub fn sequence_control(
+        self,
+        values: &[u8],
+        tags: &[u16],
+        starts: &[usize],
+        lengths: &[usize],
+    ) -> Number
+        ensures { λ r. ⌜
+            numberOf r ≡ sequenceControl (now (values .entry))
+            (table (now (tags .entry)) (now (starts .entry)) (now (lengths .entry))) (self .count) ⌝ }
+    {
+        first_number(values, tags, starts, lengths, self.count, SEQUENCE_CONTROL)
+    }
+
+    // The SS7 hop counter. 15.
+    pub fn ss7_hop_count(
+        self,
+        values: &[u8],
+        tags: &[u16],
+        starts: &[usize],
+        lengths: &[usize],
+    ) -> Octet
+        ensures { λ r. ⌜
+            octetOf r ≡ ss7HopCount (now (values .entry))
+            (table (now (tags .entry)) (now (starts .entry)) (now (lengths .entry))) (self .count) ⌝ }
+    {
+        fourth_octet(first_number(values, tags, starts, lengths, self.count, SS7_HOP_COUNTER))
+    }
+
+    // The type and the value of the SCCP cause. 15.
+    pub fn sccp_cause(
+        self,
+        values: &[u8],
+        tags: &[u16],
+        starts: &[usize],
+        lengths: &[usize],
+    ) -> Cause
+        ensures { λ r. ⌜
+            causeOf r ≡ sccpCause (now (values .entry))
+            (table (now (tags .entry)) (now (starts .entry)) (now (lengths .entry))) (self .count) ⌝ }
+    {
+        last_octets(first_number(values, tags, starts, lengths, self.count, SCCP_CAUSE))
+    }
+}

@@ -1,5 +1,5 @@
 -- The accessors: what was found, and what its value reads as.
-use Prim.Native.Nat.{ℕ, _+_, _/_, _%_, _≤_, _<_}
+use Prim.Native.Nat.{ℕ, _+_, _-_, _/_, _%_, _≤_, _<_}
 use mathlib.Core.Path.{_≡_, refl, sym, ap, _∙_, subst}
 use mathlib.Core.Bool.{Bool, true, false}
 use mathlib.Core.Option.{Option, none, some, Option·map}
@@ -41,6 +41,10 @@ pub read-found :
     → mapped (readAt read values) o ≡ firstRead read tag values t count
 unfolding firstRead
 read-found read tag values t count o e = ap (mapped (readAt read values)) e
+
+-- The part of the values at a place.
+pub part-value : (values : List ℕ) (p : Place) → take (p .start + p .length - p .start) (drop (p .start) values) ≡ valued values p .value
+part-value values p = let e : p .start + p .length - p .start ≡ p .length = omega arith in ap (λ n. take n (drop (p .start) values)) e
 
 four-short : {A : Type 0} (read : List ℕ → A) (v : List ℕ) → length v < 4 → ofFour read v ≡ none
 four-short read v h = rw (lt-leb 4 (length v) h)

@@ -2,10 +2,10 @@
 -- the table of records and their count; 15 looks at every record (document 01, 'Order').
 use Prim.Native.Nat.{ℕ, _/_, _%_}
 use mathlib.Core.Option.{Option, none, some}
-use mathlib.Core.List.{List}
+use mathlib.Core.List.{List, []}
 use lib.ListN.{length, getD}
 use lib.Dec.{leb}
-use Rattle.bcd.specs.Outcome.{Outcome, accepted, pick, mapped}
+use Rattle.bcd.specs.Outcome.{Outcome, accepted, refused, pick, mapped}
 use Rattle.bcd.specs.Answers.{refusalOf}
 use Rattle.parameter.specs.declared.Place.{Place}
 use Rattle.parameter.specs.Parameter.{fourIn}
@@ -54,6 +54,19 @@ ss7HopCount = firstRead (ofFour fourth) 0x0101
 
 abbrev pub sccpCause : List ℕ → Table → (count : ℕ) → Outcome (Option SccpCause)
 sccpCause = firstRead (ofFour causeIn) 0x0106
+
+-- Data (RFC 3868, 3.10): where the part stands in the values, and the part itself; no octets where there is none, or where a
+-- record meets 15.
+abbrev pub dataAt : List ℕ → Table → (count : ℕ) → Outcome (Option Place)
+dataAt values t count = findParam values t count 0x010B
+
+abbrev pub shown : List ℕ → Outcome (Option Place) → List ℕ
+shown values (accepted (some p)) = valued values p .value
+shown values (accepted none) = []
+shown values (refused number vs) = []
+
+abbrev pub dataPart : List ℕ → Table → (count : ℕ) → List ℕ
+dataPart values t count = shown values (dataAt values t count)
 
 -- The fourth octet of a 32-bit number, and the third and the fourth: steps of the code.
 abbrev pub fourthOctet : ℕ → ℕ

@@ -3,6 +3,7 @@ use crate::SuaMessage;
 use bcd::error::Refusal;
 use parameter::Found;
 use parameter::Number;
+use parameter::tags::DATA;
 use parameter::tags::PROTOCOL_CLASS;
 use parameter::tags::ROUTING_CONTEXT;
 use parameter::tags::SCCP_CAUSE;
@@ -13,8 +14,9 @@ ghost use mathlib.Core.Option.{Option·map};
 ghost use Rattle.bcd.specs.Outcome.{mapped};
 ghost use Rattle.parameter.specs.Parameter.{fourIn};
 ghost use Rattle.parameter.specs.Table.{table};
-ghost use Rattle.parameter.specs.Answers.{numberOf};
-ghost use Rattle.message.specs.Accessors.{ofFour, firstRead, fourthOctet, causeOctets, routingContext, protocolClass, sequenceControl, ss7HopCount, sccpCause, octetOf, causeOf};
+ghost use Rattle.parameter.specs.Answers.{numberOf, foundOf};
+ghost use Rattle.message.specs.Accessors.{ofFour, firstRead, fourthOctet, causeOctets, octetOf, causeOf};
+ghost use Rattle.message.specs.Accessors.{routingContext, protocolClass, sequenceControl, ss7HopCount, sccpCause, dataAt, dataPart};
 
 // An octet; none where the parameter is absent or has under four octets.
 pub enum Octet {
@@ -162,5 +164,37 @@ impl SuaMessage {
             (table (now (tags .entry)) (now (starts .entry)) (now (lengths .entry))) (self .count) ⌝ }
     {
         last_octets(first_number(values, tags, starts, lengths, self.count, SCCP_CAUSE))
+    }
+
+    // Where the data stand. 15.
+    pub fn data(self, values: &[u8], tags: &[u16], starts: &[usize], lengths: &[usize]) -> Found
+        ensures { λ r. ⌜
+            foundOf r ≡ dataAt (now (values .entry))
+            (table (now (tags .entry)) (now (starts .entry)) (now (lengths .entry))) (self .count) ⌝ }
+    {
+        parameter::find_parameter(values, tags, starts, lengths, self.count, DATA)
+    }
+
+    // The data; no octets where there are none, or where a record meets 15.
+    pub fn data_part<'a>(
+        self,
+        values: &'a [u8],
+        tags: &[u16],
+        starts: &[usize],
+        lengths: &[usize],
+    ) -> &'a [u8]
+        ensures { λ r. ⌜
+            now r ≡ dataPart (now (values .entry))
+            (table (now (tags .entry)) (now (starts .entry)) (now (lengths .entry))) (self .count) ⌝ }
+    {
+        match parameter::find_parameter(values, tags, starts, lengths, self.count, DATA) {
+            Found::At(place) => {
+                let start = place.start;
+                let end = start + place.length;
+                &values[start..end]
+            }
+            Found::None => &values[..0],
+            Found::Refused(_) => &values[..0],
+        }
     }
 }

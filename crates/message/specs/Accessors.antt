@@ -11,6 +11,7 @@ use Rattle.parameter.specs.declared.Place.{Place}
 use Rattle.parameter.specs.Parameter.{fourIn}
 use Rattle.parameter.specs.Walk.{valued}
 use Rattle.parameter.specs.Table.{Table, findParam}
+use Rattle.message.specs.PointCodes.{codesIn}
 use Rattle.message.specs.declared.accessors.Octet.{Octet}
 use Rattle.message.specs.declared.accessors.Octet.the-variants as O
 use Rattle.message.specs.declared.accessors.SccpCause.{SccpCause}
@@ -67,6 +68,14 @@ shown values (refused number vs) = []
 
 abbrev pub dataPart : List ℕ → Table → (count : ℕ) → List ℕ
 dataPart values t count = shown values (dataAt values t count)
+
+-- Affected point codes (RFC 3868, 3.9): those of the first such parameter; none where there is no such parameter.
+abbrev pub codesAt : List ℕ → Option Place → List ℕ
+codesAt values none = []
+codesAt values (some p) = codesIn (valued values p .value)
+
+abbrev pub affectedPointCodes : List ℕ → Table → (count : ℕ) → Outcome (List ℕ)
+affectedPointCodes values t count = mapped (codesAt values) (findParam values t count 0x0012)
 
 -- The fourth octet of a 32-bit number, and the third and the fourth: steps of the code.
 abbrev pub fourthOctet : ℕ → ℕ

@@ -1,8 +1,11 @@
 // The parameters of a message by name (message.rs; RFC 3868, 3.9 and 3.10). 15 first, if any record meets it.
 use crate::SuaMessage;
+use crate::point_codes::list_codes;
+use bcd::error::Counted;
 use bcd::error::Refusal;
 use parameter::Found;
 use parameter::Number;
+use parameter::tags::AFFECTED_POINT_CODE;
 use parameter::tags::DATA;
 use parameter::tags::PROTOCOL_CLASS;
 use parameter::tags::ROUTING_CONTEXT;
@@ -11,12 +14,15 @@ use parameter::tags::SEQUENCE_CONTROL;
 use parameter::tags::SS7_HOP_COUNTER;
 ghost use mathlib.Core.Path.{_≡_};
 ghost use mathlib.Core.Option.{Option·map};
-ghost use Rattle.bcd.specs.Outcome.{mapped};
+ghost use Rattle.bcd.specs.Outcome.{mapped, delivered};
+ghost use Rattle.bcd.specs.Answers.{countedOf};
 ghost use Rattle.parameter.specs.Parameter.{fourIn};
 ghost use Rattle.parameter.specs.Table.{table};
 ghost use Rattle.parameter.specs.Answers.{numberOf, foundOf};
 ghost use Rattle.message.specs.Accessors.{ofFour, firstRead, fourthOctet, causeOctets, octetOf, causeOf};
-ghost use Rattle.message.specs.Accessors.{routingContext, protocolClass, sequenceControl, ss7HopCount, sccpCause, dataAt, dataPart};
+ghost use Rattle.message.specs.Accessors.{routingContext, protocolClass, sequenceControl, ss7HopCount, sccpCause};
+ghost use Rattle.message.specs.Accessors.{dataAt, dataPart, affectedPointCodes};
+ghost use Rattle.message.specs.PointCodes.{storeCodes};
 
 // An octet; none where the parameter is absent or has under four octets.
 pub enum Octet {
@@ -195,6 +201,32 @@ impl SuaMessage {
             }
             Found::None => &values[..0],
             Found::Refused(_) => &values[..0],
+        }
+    }
+
+    // Stores the affected point codes in a lent table; where there is no such parameter, none. 15, 13.
+    pub fn affected_point_codes(
+        self,
+        values: &[u8],
+        tags: &[u16],
+        starts: &[usize],
+        lengths: &[usize],
+        out: &mut [u32],
+    ) -> Counted
+        ensures { λ r. ⌜
+            delivered (countedOf r) (now (out .exit))
+            ≡ storeCodes (affectedPointCodes (now (values .entry))
+            (table (now (tags .entry)) (now (starts .entry)) (now (lengths .entry))) (self .count)) (now (out .entry)) ⌝ }
+    {
+        let count = self.count;
+        match parameter::find_parameter(values, tags, starts, lengths, count, AFFECTED_POINT_CODE) {
+            Found::Refused(r) => Counted::Refused(r),
+            Found::None => Counted::Count(0),
+            Found::At(place) => {
+                let start = place.start;
+                let end = start + place.length;
+                list_codes(&values[start..end], out)
+            }
         }
     }
 }

@@ -66,7 +66,7 @@ given-read : (a : Address) → a .routing ≤ 4 → FewDigits (a .title) → add
 given-read a h f =
     given-known (isThere (a .title)) (addressOf (addressRecord a) (a .others)) _ _ (title-taken (a .title) f) ∙ ap accepted (address-back a h)
 
-others-all : (P : Place → Type 0) (ps : List Place) → All P ps → All P (otherPlaces ps)
+pub others-all : (P : Place → Type 0) (ps : List Place) → All P ps → All P (otherPlaces ps)
 others-all P [] h = tt
 others-all P (p ∷ ps) h = go (isOther (p .tag)) (others-all P ps (h .1))
   where

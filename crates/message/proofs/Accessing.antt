@@ -89,6 +89,9 @@ value-front values p n inside h e =
     ∙ ap accepted (four-long fourIn (take 4 w) (omega arith) ∙ ap some (front w (p .length) h)
     ∙ sym (four-long fourIn (valued values p .value) (rw (value-length values p inside) h))))
 
+pub value-octets : (values : List ℕ) (p : Place) → Octets values → Octets (valued values p .value)
+value-octets values p o = all-take (λ (x : ℕ). x < 256) (p .length) (drop (p .start) values) (all-drop (λ (x : ℕ). x < 256) (p .start) values o)
+
 -- What is made of the number of the first four octets is what the value reads as.
 pub four-then :
     {A : Type 0} (f : ℕ → A) (read : List ℕ → A)
@@ -99,9 +102,6 @@ pub four-then :
 unfolding firstRead
 four-then f read same tag values t count o = go (findParam values t count tag)
   where
-    part : (p : Place) → Octets (valued values p .value)
-    part p = all-take (λ (x : ℕ). x < 256) (p .length) (drop (p .start) values) (all-drop (λ (x : ℕ). x < 256) (p .start) values o)
-
     told : (b : Bool) (v : List ℕ) → Octets v → Option·map f (pick b (some (fourIn v)) none) ≡ pick b (some (read v)) none
     told true v k = ap some (same v k)
     told false v k = refl
@@ -109,7 +109,7 @@ four-then f read same tag values t count o = go (findParam values t count tag)
     go : (o : Outcome (Option Place)) → mapped (Option·map f) (mapped (readAt (ofFour fourIn) values) o) ≡ mapped (readAt (ofFour read) values) o
     go (refused n vs) = refl
     go (accepted none) = refl
-    go (accepted (some p)) = ap accepted (told (leb 4 (length (valued values p .value))) (valued values p .value) (part p))
+    go (accepted (some p)) = ap accepted (told (leb 4 (length (valued values p .value))) (valued values p .value) (value-octets values p o))
 
 pub fourth-of : (v : List ℕ) → Octets v → fourthOctet (fourIn v) ≡ fourth v
 unfolding twoAt

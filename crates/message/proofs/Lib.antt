@@ -5,3 +5,4 @@ pub mod Messages
 pub mod Listing
 pub mod PointCodes
 pub mod Accessing
+pub mod Addresses

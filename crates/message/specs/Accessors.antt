@@ -1,8 +1,8 @@
 -- The accessors of a message: its parameters by name (RFC 3868, 3.9 and 3.10; document 01, module 6). Each takes the values,
 -- the table of records and their count; 15 looks at every record (document 01, 'Order').
-use Prim.Native.Nat.{ℕ, _/_, _%_}
+use Prim.Native.Nat.{ℕ, _+_, _/_, _%_}
 use mathlib.Core.Option.{Option, none, some}
-use mathlib.Core.List.{List, []}
+use mathlib.Core.List.{List, [], _∷_, map}
 use lib.ListN.{length, getD}
 use lib.Dec.{leb}
 use Rattle.bcd.specs.Outcome.{Outcome, accepted, refused, pick, mapped}
@@ -10,7 +10,9 @@ use Rattle.bcd.specs.Answers.{refusalOf}
 use Rattle.parameter.specs.declared.Place.{Place}
 use Rattle.parameter.specs.Parameter.{fourIn}
 use Rattle.parameter.specs.Walk.{valued}
-use Rattle.parameter.specs.Table.{Table, findParam}
+use Rattle.parameter.specs.Table.{Table, tabulate, findParam}
+use Rattle.address.specs.declared.SuaAddress.{SuaAddress}
+use Rattle.address.specs.Listing.{addressPlaces, noAddress, Listed, listAddress}
 use Rattle.message.specs.PointCodes.{codesIn}
 use Rattle.message.specs.declared.accessors.Octet.{Octet}
 use Rattle.message.specs.declared.accessors.Octet.the-variants as O
@@ -76,6 +78,35 @@ codesAt values (some p) = codesIn (valued values p .value)
 
 abbrev pub affectedPointCodes : List ℕ → Table → (count : ℕ) → Outcome (List ℕ)
 affectedPointCodes values t count = mapped (codesAt values) (findParam values t count 0x0012)
+
+-- What an address accessor answers, and what the table lent for the others then holds.
+abbrev pub listed : Outcome (Unit {0}) → SuaAddress → Table → Listed
+listed answer address held = record { answer = answer; address = address; table = held }
+
+-- A place in a value that starts at a position of a slice, counted from the first octet of the slice.
+abbrev pub moved : (base : ℕ) → Place → Place
+moved base p = record { tag = p .tag; start = base + p .start; length = p .length }
+
+-- An address value that starts at a position of the values: read as it is alone, but the places of its others count from
+-- the first octet of the values (docs/DECISIONS.md, point 2).
+unfoldable pub listAddressAt : (base : ℕ) → List ℕ → Table → Listed
+listAddressAt base v held =
+    let alone : Listed = listAddress v held in
+    listed (alone .answer) (alone .address) (tabulate (mapped (map (moved base)) (addressPlaces v)) held .table)
+
+-- An address parameter that was looked for: 15, then 7 where there is none, then its reading's refusals (document 01,
+-- 'Order'). A refusal leaves the table as it was.
+unfoldable pub addressFound : (tag : ℕ) → List ℕ → Outcome (Option Place) → Table → Listed
+addressFound tag values (refused number vs) held = listed (refused number vs) noAddress held
+addressFound tag values (accepted none) held = listed (refused 7 (tag ∷ [])) noAddress held
+addressFound tag values (accepted (some p)) held = listAddressAt (p .start) (valued values p .value) held
+
+-- Source and destination address (RFC 3868, 3.10.2 and 3.10.3).
+abbrev pub sourceAddress : List ℕ → Table → (count : ℕ) → Table → Listed
+sourceAddress values t count = addressFound 0x0102 values (findParam values t count 0x0102)
+
+abbrev pub destinationAddress : List ℕ → Table → (count : ℕ) → Table → Listed
+destinationAddress values t count = addressFound 0x0103 values (findParam values t count 0x0103)
 
 -- The fourth octet of a 32-bit number, and the third and the fourth: steps of the code.
 abbrev pub fourthOctet : ℕ → ℕ

@@ -55,7 +55,8 @@ fn nothing() -> SuaAddress
     }
 }
 
-fn refused(r: Refusal) -> AddressRead
+// A refusal, with the record that stands beside it.
+pub fn refused(r: Refusal) -> AddressRead
     ensures { λ a. ⌜ (verdictOf (a .verdict) ≡ refusalOf r) × (a .address ≡ noAddress) ⌝ }
 {
     AddressRead {

@@ -5,3 +5,6 @@ pub mod Framing
 pub mod Messages
 pub mod Listing
 pub mod Standing
+pub mod PointCodes
+pub mod Accessing
+pub mod Addresses

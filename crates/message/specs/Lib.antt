@@ -2,3 +2,5 @@ pub mod Types
 pub mod Message
 pub mod Listing
 pub mod Standing
+pub mod PointCodes
+pub mod Accessors

@@ -1,5 +1,7 @@
 // Messages, read and written (message.rs; RFC 3868, 3.1).
+pub mod accessors;
 pub mod header;
+pub mod point_codes;
 
 use bcd::error::Counted;
 use bcd::error::Refusal;

@@ -19,7 +19,8 @@ use Rattle.address.specs.Parts.{keptTitle, keptCode, keptSub}
 use Rattle.address.specs.Listing.{isOther, otherPlaces}
 use Rattle.address.specs.declared.parts.Kept.{Kept}
 use Rattle.address.proofs.Keeping.{value-at}
-use Rattle.entry.specs.Account.{placeOctets, placesOctets, marked, titleFields, moved}
+use Rattle.entry.specs.Account.{placeOctets, placesOctets, marked, titleFields}
+use Rattle.message.specs.Accessors.{moved}
 use Rattle.entry.specs.steps.Emitting.{Emitted}
 
 -- the digits that were read

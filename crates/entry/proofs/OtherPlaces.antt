@@ -11,7 +11,8 @@ use Rattle.parameter.proofs.Reaching.{Reached, reached-start, reached-next}
 use Rattle.address.specs.Listing.{otherPlaces}
 use Rattle.address.specs.Plan.{placesIn}
 use Rattle.address.proofs.Others.{others-append, others-fewer}
-use Rattle.entry.specs.Account.{placeOctets, placesOctets, moved}
+use Rattle.entry.specs.Account.{placeOctets, placesOctets}
+use Rattle.message.specs.Accessors.{moved}
 use Rattle.entry.specs.steps.Emitting.{Emitted}
 use Rattle.entry.proofs.Emission.{emitted-none, emitted-more}
 

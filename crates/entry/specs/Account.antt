@@ -12,6 +12,7 @@ use Rattle.address.specs.Address.{Title, Address, indicator, addressIn}
 use Rattle.address.specs.Listing.{otherPlaces}
 use Rattle.message.specs.Types.{classOf, typeOf}
 use Rattle.message.specs.Message.{readHeader}
+use Rattle.message.specs.Accessors.{moved}
 use Rattle.form.specs.Form.{isAddress}
 
 -- A tag (2 octets), and where the value starts and how long it is (4 octets each).
@@ -41,10 +42,6 @@ addressFields a others =
     ++ (marked (λ (n : ℕ). n ∷ []) (a .sub)
     ++ (four (length others)
     ++ placesOctets others)))))
-
--- A place of an address value, counted from the first octet of the message in which the value starts at a position.
-abbrev pub moved : (base : ℕ) → Place → Place
-moved base p = record { tag = p .tag; start = base + p .start; length = p .length }
 
 -- An address value that starts at a position of the message, with the refusals of its reading.
 unfoldable pub addressAccount : Alphabet → (base : ℕ) → List ℕ → Outcome (List ℕ)

@@ -28,7 +28,8 @@ ghost use Rattle.address.specs.Parts.{keptTitle, keptCode, keptSub};
 ghost use Rattle.address.specs.Listing.{otherPlaces};
 ghost use Rattle.address.specs.Plan.{HeldIn, Read};
 ghost use Rattle.form.specs.steps.Passes.{sumOf};
-ghost use Rattle.entry.specs.Account.{placeOctets, placesOctets, marked, titleFields, moved, addressAccount, account};
+ghost use Rattle.entry.specs.Account.{placeOctets, placesOctets, marked, titleFields, addressAccount, account};
+ghost use Rattle.message.specs.Accessors.{moved};
 ghost use Rattle.entry.specs.steps.Emitting.{Emitted, Tried, othersFields, partsFields, Further, Accounted};
 
 // Where the account of the parameters ends, or why it is refused; and how many parameters there are.

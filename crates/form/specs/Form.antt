@@ -6,7 +6,7 @@ use mathlib.Core.List.{List, [], _∷_}
 use lib.Dec.{eqb}
 use Rattle.bcd.specs.Outcome.{Outcome, accepted, pick, after, mapped, each}
 use Rattle.bcd.specs.Digits.{Alphabet}
-use Rattle.parameter.specs.Parameter.{Param}
+use Rattle.parameter.specs.Parameter.{Param, param}
 use Rattle.address.specs.Address.{Address, addressIn, rewriteAddress}
 use Rattle.message.specs.declared.header.MessageType.{MessageType}
 use Rattle.message.specs.Message.{message, readMessage, writeMessage}
@@ -18,7 +18,7 @@ isAddress tag = eqb tag 0x0102 || eqb tag 0x0103
 -- A parameter with its value: an address replaced by the address read and written again. A value has too few octets for 12.
 unfoldable pub settledParam : Alphabet → Param → Outcome (List Param)
 settledParam A p =
-    pick (isAddress (p .tag)) (mapped (λ w. record { tag = p .tag; value = w } ∷ []) (rewriteAddress A (p .tag) (p .value)))
+    pick (isAddress (p .tag)) (mapped (λ w. param (p .tag) w ∷ []) (rewriteAddress A (p .tag) (p .value)))
     (accepted (p ∷ []))
 
 -- The settled form: the message is read, each address in wire order is read and written again, and the message is

@@ -14,7 +14,7 @@ ghost use lib.ListN.{length};
 ghost use Rattle.bcd.specs.Outcome.{Outcome, accepted, after, mapped, most, delivered, deliver};
 ghost use Rattle.bcd.specs.Answers.{countedOf};
 ghost use Rattle.bcd.specs.Digits.{builtIn};
-ghost use Rattle.parameter.specs.Parameter.{Param, mostValue, runOctets, runLength};
+ghost use Rattle.parameter.specs.Parameter.{Param, param, mostValue, runOctets, runLength};
 ghost use Rattle.parameter.specs.Walk.{valued};
 ghost use Rattle.form.specs.Form.{isAddress, settledParam, settled};
 ghost use Rattle.form.specs.steps.Passes.{settledRun, sumOf, Placeable};
@@ -33,7 +33,7 @@ pub fn is_address(tag: u16) -> bool
 // What a parameter takes in the form. An address's refusals, 9, 10.
 fn settled_length_of(tag: u16, value: &[u8]) -> Counted
     requires { ⌜ length (now value) ≤ mostValue ⌝ }
-    ensures { λ r. ⌜ countedOf r ≡ mapped runLength (settledParam builtIn (record { tag = tag; value = now (value .entry) })) ⌝ }
+    ensures { λ r. ⌜ countedOf r ≡ mapped runLength (settledParam builtIn (param tag (now (value .entry)))) ⌝ }
 {
     if is_address(tag) {
         return match address::rewrite::rewritten_length(tag, value) {
@@ -111,10 +111,10 @@ pub fn settled_length(input: &[u8]) -> Counted
 // Writes a parameter's part of the form, for which there is room, and answers its length.
 fn put_settled(tag: u16, value: &[u8], out: &mut [u8]) -> usize
     requires { ⌜ length (now value) ≤ mostValue ⌝ }
-    requires { ⌜ Placeable (record { tag = tag; value = now value }) (length (now out)) ⌝ }
+    requires { ⌜ Placeable (param tag (now value)) (length (now out)) ⌝ }
     ensures { λ r. ⌜
         delivered (accepted r) (now (out .exit))
-        ≡ deliver (mapped runOctets (settledParam builtIn (record { tag = tag; value = now (value .entry) }))) (now (out .entry)) ⌝ }
+        ≡ deliver (mapped runOctets (settledParam builtIn (param tag (now (value .entry))))) (now (out .entry)) ⌝ }
 {
     if is_address(tag) {
         let Counted::Count(n) = address::rewrite::rewrite(tag, value, &mut out[4..]) else {

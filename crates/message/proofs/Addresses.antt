@@ -26,7 +26,8 @@ use Rattle.address.proofs.Interpreting.{others-hold}
 use Rattle.address.proofs.Interpreted.{address, read-whole, accepted-read}
 use Rattle.address.proofs.Tabling.{places-known}
 use Rattle.address.proofs.TableBack.{others-all}
-use Rattle.message.specs.Accessors.{listed, moved, listAddressAt, addressFound}
+use Rattle.message.specs.Accessors.{moved, listAddressAt, addressFound}
+use Rattle.address.specs.Listing.{listed}
 
 -- What a buffer holds behind what was written is what it held.
 begun-behind : {out p d : List ℕ} (i : ℕ) → Begun out p d → length p ≡ i → getD d i 0 ≡ getD out i 0

@@ -12,7 +12,7 @@ use Rattle.parameter.specs.Parameter.{fourIn}
 use Rattle.parameter.specs.Walk.{valued}
 use Rattle.parameter.specs.Table.{Table, tabulate, findParam}
 use Rattle.address.specs.declared.SuaAddress.{SuaAddress}
-use Rattle.address.specs.Listing.{addressPlaces, noAddress, Listed, listAddress}
+use Rattle.address.specs.Listing.{addressPlaces, noAddress, Listed, listed, listAddress}
 use Rattle.message.specs.PointCodes.{codesIn}
 use Rattle.message.specs.declared.accessors.Octet.{Octet}
 use Rattle.message.specs.declared.accessors.Octet.the-variants as O
@@ -78,10 +78,6 @@ codesAt values (some p) = codesIn (valued values p .value)
 
 abbrev pub affectedPointCodes : List ℕ → Table → (count : ℕ) → Outcome (List ℕ)
 affectedPointCodes values t count = mapped (codesAt values) (findParam values t count 0x0012)
-
--- What an address accessor answers, and what the table lent for the others then holds.
-abbrev pub listed : Outcome (Unit {0}) → SuaAddress → Table → Listed
-listed answer address held = record { answer = answer; address = address; table = held }
 
 -- A place in a value that starts at a position of a slice, counted from the first octet of the slice.
 abbrev pub moved : (base : ℕ) → Place → Place

@@ -31,7 +31,8 @@ ghost use Rattle.message.specs.Accessors.{ofFour, firstRead, fourthOctet
 ghost use Rattle.message.specs.Accessors.{routingContext, protocolClass, sequenceControl, ss7HopCount, sccpCause};
 ghost use Rattle.address.specs.Titles.{verdictOf};
 ghost use Rattle.message.specs.Accessors.{dataAt, dataPart, affectedPointCodes};
-ghost use Rattle.message.specs.Accessors.{listed, addressFound, sourceAddress, destinationAddress};
+ghost use Rattle.message.specs.Accessors.{addressFound, sourceAddress, destinationAddress};
+ghost use Rattle.address.specs.Listing.{listed};
 ghost use Rattle.message.specs.PointCodes.{storeCodes};
 
 // An octet; none where the parameter is absent or has under four octets.

@@ -15,7 +15,8 @@ use Rattle.address.specs.Parts.{keptTitle, keptCode, keptSub}
 use Rattle.address.specs.Listing.{otherPlaces}
 use Rattle.address.specs.Plan.{placesIn}
 use Rattle.entry.specs.declared.account.Accounts.{Accounts}
-use Rattle.entry.specs.Account.{placesOctets, marked, titleFields, moved, paramAccount}
+use Rattle.entry.specs.Account.{placesOctets, marked, titleFields, paramAccount}
+use Rattle.message.specs.Accessors.{moved}
 
 -- An octet stored at a position that the slice has.
 abbrev pub stored : List ℕ → (at v : ℕ) → List ℕ

@@ -17,7 +17,8 @@ use Rattle.parameter.proofs.Records.{value-length}
 use Rattle.address.specs.Titles.{verdictOf}
 use Rattle.address.specs.Listing.{listAddress}
 use Rattle.address.proofs.Tabling.{answer-refused}
-use Rattle.message.specs.Accessors.{listed, addressFound}
+use Rattle.message.specs.Accessors.{addressFound}
+use Rattle.address.specs.Listing.{listed}
 use Rattle.message.proofs.Accessing.{find-inside, part-value, value-octets}
 use Rattle.message.proofs.Addresses.{moves, moved-listed, address-refused, address-none, address-there}
 use Rattle.message.proofs.accessors.first_address.Statement.{statement}

@@ -17,8 +17,8 @@ use Rattle.address.specs.Address.{titleAt, Title, titleIn, readTitle, Ad
 use Rattle.address.specs.Records.{routingValue, routingOf, flagged, addressOf, titleOf}
 use Rattle.address.specs.Titles.{TitleAnswer, recordOf, noTitle, titleAnswer}
 use Rattle.address.specs.Listing.{otherPlaces, routingNamed, isThere, addressRecord}
-use Rattle.address.specs.Parts.{keptTitle, keptCode, keptSub}
-use Rattle.address.specs.Plan.{HeldIn, Read}
+use Rattle.address.specs.Steps.Kept.{keptTitle, keptCode, keptSub}
+use Rattle.address.specs.Steps.Plan.{HeldIn, Read}
 use Rattle.address.specs.declared.GlobalTitle.{GlobalTitle}
 use Rattle.address.specs.declared.RoutingIndicator.{RoutingIndicator}
 use Rattle.address.specs.declared.Routing.{Routing}

@@ -17,7 +17,7 @@ use Rattle.parameter.proofs.Reaching.{Reached, reached-start, reached-next}
 use Rattle.parameter.proofs.RoundTrip.{run-length, run-octets-append, run-length-append}
 use Rattle.parameter.proofs.Running.{part-of}
 use Rattle.address.specs.Listing.{isOther, otherPlaces}
-use Rattle.address.specs.Plan.{Walked, othersOctets}
+use Rattle.address.specs.Steps.Plan.{Walked, othersOctets}
 use Rattle.address.specs.declared.parts.Parts.{Parts}
 use Rattle.parameter.proofs.Records.{value-length}
 use Rattle.address.proofs.Others.{others-append}

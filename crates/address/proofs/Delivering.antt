@@ -12,8 +12,8 @@ use Rattle.bcd.proofs.Writing.{Begun, extend, delivered}
 use Rattle.parameter.specs.Parameter.{Param, twoAt, runOctets, runLength}
 use Rattle.parameter.proofs.RoundTrip.{run-length, run-octets-append, run-length-append}
 use Rattle.address.specs.Address.{title, code, present, subParam, readAddress, writeAddress}
-use Rattle.address.specs.Parts.{keptTitle, keptCode, keptSub, keptPieces}
-use Rattle.address.specs.Plan.{Ready, headOctets, wireOf, Plan, othersOctets}
+use Rattle.address.specs.Steps.Kept.{keptTitle, keptCode, keptSub, keptPieces}
+use Rattle.address.specs.Steps.Plan.{Ready, headOctets, wireOf, Plan, othersOctets}
 use Rattle.address.specs.declared.parts.Parts.{Parts}
 use Rattle.address.proofs.Planning.{paramOf, codeParam, subOne, rest, kept-written, others-sum}
 use Rattle.address.proofs.Plans.{plan-octets, wire-length}

@@ -18,7 +18,7 @@ use Rattle.parameter.proofs.RoundTrip.{run-length, run-length-append, encode-ac
 use Rattle.address.specs.Address.{indicator, pieces, sized, writeAddress}
 use Rattle.address.specs.Records.{flagged, titleOf, addressOf}
 use Rattle.address.specs.Given.{encodeAddress}
-use Rattle.address.specs.GivenParts.{givenTitle, givenParam, givenHead}
+use Rattle.address.specs.Steps.GivenParts.{givenTitle, givenParam, givenHead}
 use Rattle.address.specs.declared.SuaAddress.{SuaAddress}
 use Rattle.address.proofs.Planning.{mapped-refused, paramOf, codeParam, subOne, four-length, parts-written, parts-refused}
 use Rattle.address.proofs.Copying.{lent-length}

@@ -21,8 +21,8 @@ use Rattle.parameter.proofs.RoundTrip.{octets-length}
 use Rattle.parameter.proofs.InPlace.{framed-there}
 use Rattle.address.specs.Address.{Title, titleOctets, writeTitle, title, present, subParam}
 use Rattle.address.specs.Records.{titleOf, titleGiven, flagged}
-use Rattle.address.specs.Plan.{Ready}
-use Rattle.address.specs.GivenParts.{givenTitle, givenParam}
+use Rattle.address.specs.Steps.Plan.{Ready}
+use Rattle.address.specs.Steps.GivenParts.{givenTitle, givenParam}
 use Rattle.address.specs.declared.GlobalTitle.{GlobalTitle}
 use Rattle.address.proofs.Planning.{each-one, title-sized, flagged-small}
 use Rattle.address.proofs.Putting.{encoded, one-delivered, none-delivered}

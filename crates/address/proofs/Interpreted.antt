@@ -15,8 +15,9 @@ use Rattle.parameter.specs.Walk.{valued, places}
 use Rattle.parameter.specs.declared.Place.{Place}
 use Rattle.parameter.proofs.Structure.{places-parameters}
 use Rattle.address.specs.Address.{Address, addressWith, addressIn, readAddress}
-use Rattle.address.specs.Parts.{nothing, noteAll, interpreted, judged, shortRefusal}
-use Rattle.address.specs.Plan.{Walked, Read}
+use Rattle.address.specs.Parts.{nothing, noteAll, interpreted}
+use Rattle.address.specs.Steps.Kept.{judged, shortRefusal}
+use Rattle.address.specs.Steps.Plan.{Walked, Read}
 use Rattle.address.specs.declared.parts.Kept.{Kept}
 use Rattle.address.specs.declared.parts.Parts.{Parts}
 use Rattle.address.proofs.Keeping.{pieceAt}

@@ -22,7 +22,8 @@ use Rattle.address.specs.Records.{routingOf}
 use Rattle.address.specs.declared.RoutingIndicator.{RoutingIndicator}
 use Rattle.address.specs.declared.Routing.{Routing}
 use Rattle.address.specs.declared.Routing.the-variants as R
-use Rattle.address.specs.Parts.{nothing, notedTitle, notedCode, notedSsn, notedOther, noted, noteAll, judged, keptTitle, keptCode, keptSub, keptPieces, keptPlace}
+use Rattle.address.specs.Parts.{nothing, notedTitle, notedCode, notedSsn, notedOther, noted, noteAll, keptPlace}
+use Rattle.address.specs.Steps.Kept.{judged, keptTitle, keptCode, keptSub, keptPieces}
 use Rattle.address.specs.Listing.{otherPlaces}
 use Rattle.address.specs.declared.parts.Parts.{Parts}
 use Rattle.parameter.proofs.Records.{value-length}

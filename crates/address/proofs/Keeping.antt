@@ -20,7 +20,8 @@ use Rattle.parameter.specs.declared.Place.{Place}
 use Rattle.parameter.proofs.Records.{value-length}
 use Rattle.address.specs.Address.{titleAt, titleIn, fourOctets, Piece, title, code, sub, other, pieceIn, later, last}
 use Rattle.address.specs.Records.{flagged}
-use Rattle.address.specs.Parts.{keptPlace, sooner, notedTitle, notedCode, notedSsn, notedOther, noted, noteAll, shortBy, shortRefusal, judged}
+use Rattle.address.specs.Parts.{keptPlace, sooner, notedTitle, notedCode, notedSsn, notedOther, noted, noteAll}
+use Rattle.address.specs.Steps.Kept.{shortBy, shortRefusal, judged}
 use Rattle.address.specs.declared.parts.Kept.{Kept}
 use Rattle.address.specs.declared.parts.Parts.{Parts}
 

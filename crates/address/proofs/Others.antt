@@ -10,7 +10,7 @@ use Rattle.parameter.specs.declared.Place.{Place}
 use Rattle.parameter.proofs.Walking.{places-few}
 use Rattle.address.specs.Listing.{isOther, otherPlaces}
 use Rattle.address.specs.Parts.{nothing}
-use Rattle.address.specs.Plan.{Walked}
+use Rattle.address.specs.Steps.Plan.{Walked}
 use Rattle.address.specs.declared.parts.Parts.{Parts}
 use Rattle.address.proofs.Interpreting.{others-count}
 

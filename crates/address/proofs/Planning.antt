@@ -25,9 +25,10 @@ use Rattle.parameter.proofs.RoundTrip.{run-length-append}
 use Rattle.parameter.proofs.Reading.{parameters-room}
 use Rattle.address.specs.Address.{titleAt, Title, Piece, titleOctets, writeTitle, title, code, sub, other, present, subParam}
 use Rattle.address.specs.Records.{flagged}
-use Rattle.address.specs.Parts.{nothing, noted, noteAll, sooner, keptTitle, keptCode, keptSub, keptPieces}
+use Rattle.address.specs.Parts.{nothing, noted, noteAll, sooner}
+use Rattle.address.specs.Steps.Kept.{keptTitle, keptCode, keptSub, keptPieces}
 use Rattle.address.specs.Listing.{otherPlaces}
-use Rattle.address.specs.Plan.{HeldIn, Walked}
+use Rattle.address.specs.Steps.Plan.{HeldIn, Walked}
 use Rattle.address.specs.declared.parts.Kept.{Kept}
 use Rattle.address.specs.declared.parts.Parts.{Parts}
 use Rattle.address.proofs.Keeping.{kinds, Inside}

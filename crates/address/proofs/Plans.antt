@@ -17,8 +17,8 @@ use Rattle.bcd.proofs.Characters.{builtIn-lawful}
 use Rattle.parameter.specs.Parameter.{Param, two, runOctets, runLength, mostValue, twoAt}
 use Rattle.parameter.proofs.RoundTrip.{run-length, run-length-append}
 use Rattle.address.specs.Address.{Address, Piece, title, present, addressWith, addressIn, readAddress, indicator, pieces, subParam, sized, writeAddress}
-use Rattle.address.specs.Parts.{keptTitle, keptPieces}
-use Rattle.address.specs.Plan.{Read, wireOf, Plan, PlanOf}
+use Rattle.address.specs.Steps.Kept.{keptTitle, keptPieces}
+use Rattle.address.specs.Steps.Plan.{Read, wireOf, Plan, PlanOf}
 use Rattle.address.specs.declared.parts.Parts.{Parts}
 use Rattle.address.specs.declared.interpret.Planned.the-variants as P
 use Rattle.address.proofs.Keeping.{pieceAt}

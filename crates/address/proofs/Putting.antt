@@ -17,8 +17,8 @@ use Rattle.parameter.proofs.Encoding.{encode-within}
 use Rattle.parameter.proofs.Running.{part-of}
 use Rattle.address.specs.Address.{titleAt, title, code, sub, present, subParam}
 use Rattle.address.specs.Records.{flagged}
-use Rattle.address.specs.Parts.{keptTitle, keptCode, keptSub}
-use Rattle.address.specs.Plan.{Ready}
+use Rattle.address.specs.Steps.Kept.{keptTitle, keptCode, keptSub}
+use Rattle.address.specs.Steps.Plan.{Ready}
 use Rattle.address.specs.declared.parts.Kept.{Kept}
 use Rattle.address.proofs.Planning.{each-one, paramOf, codeParam, subOne, code-params, sub-params, four-length}
 

@@ -22,8 +22,9 @@ use Rattle.address.specs.Records.{titleOf, titleGiven, flagged, addressO
 use Rattle.address.specs.Titles.{recordOf, noTitle}
 use Rattle.address.specs.Listing.{isOther, otherPlaces, addressPlaces, isThere, addressRecord, recordIn, Listed, listed, listAddress}
 use Rattle.address.specs.Given.{encodeAddress}
-use Rattle.address.specs.Parts.{nothing, noteAll, keptTitle}
-use Rattle.address.specs.Plan.{Read}
+use Rattle.address.specs.Parts.{nothing, noteAll}
+use Rattle.address.specs.Steps.Kept.{keptTitle}
+use Rattle.address.specs.Steps.Plan.{Read}
 use Rattle.address.specs.declared.SuaAddress.{SuaAddress}
 use Rattle.address.specs.declared.parts.Kept.{Kept}
 use Rattle.address.specs.declared.parts.Parts.{Parts}

@@ -16,7 +16,7 @@ use Rattle.parameter.proofs.Reaching.{Reached, reached-start, reached-next}
 use Rattle.parameter.proofs.Filling.{tagOf, startOf, lengthOf, column, columns-stored, table-small}
 use Rattle.address.specs.Address.{Address, readAddress}
 use Rattle.address.specs.Listing.{isOther, otherPlaces, addressPlaces, addressRecord, noAddress, recordIn, Listed, listAddress}
-use Rattle.address.specs.Plan.{Walked, Read, HasRow, rowed}
+use Rattle.address.specs.Steps.Plan.{Walked, Read, HasRow, rowed}
 use Rattle.address.specs.declared.SuaAddress.{SuaAddress}
 use Rattle.address.specs.declared.parts.Parts.{Parts}
 use Rattle.address.proofs.Interpreted.{address, read-whole}

@@ -7,7 +7,8 @@ use borrow.Author.Tests.{le-leb, leb-true}
 use lib.Dec.{leb, lit<}
 use lib.ListN.{length, getD, drop, length-drop}
 use Rattle.bcd.specs.Outcome.{accepted, mapped, All, Octets, most}
-use Rattle.bcd.specs.Digits.{Alphabet, Lawful, nibble, digitsIn, writeDigits}
+use Rattle.bcd.specs.Digits.{Alphabet, Lawful, digitsIn, writeDigits}
+use Rattle.bcd.specs.Steps.{nibble}
 use Rattle.bcd.proofs.Outcomes.{accepted-inj, mapped-inv, demand-inv, bounded-within, all-drop, octets-at}
 use Rattle.bcd.proofs.Halves.{Nibbles, pack-octets}
 use Rattle.bcd.proofs.Reading.{digits-length}

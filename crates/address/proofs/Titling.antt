@@ -13,7 +13,7 @@ use Rattle.bcd.proofs.Reading.{digits-length, digits-most}
 use Rattle.bcd.proofs.Rewriting.{rewritten-octets, octets-even, octets-odd, halves-packed}
 use Rattle.parameter.specs.Parameter.{Param, two, paddedLength, paramOctets, runOctets, runLength, mostValue, encodeParam}
 use Rattle.address.specs.Address.{titleAt, titleOctets, writeTitle, title, subParam}
-use Rattle.address.specs.Plan.{Ready}
+use Rattle.address.specs.Steps.Plan.{Ready}
 use Rattle.address.proofs.Putting.{encoded, one-delivered}
 
 -- A title's octets, by the eight in front and the digits' octets.

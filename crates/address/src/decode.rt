@@ -27,8 +27,8 @@ ghost use Rattle.parameter.specs.Table.{table, tabulated, tabulate};
 ghost use Rattle.address.specs.Address.{readAddress};
 ghost use Rattle.address.specs.Titles.{verdictOf, recordOf, noTitle};
 ghost use Rattle.address.specs.Listing.{otherPlaces, addressPlaces, addressRecord, noAddress, listed, listAddress};
-ghost use Rattle.address.specs.Parts.{keptTitle, keptCode, keptSub};
-ghost use Rattle.address.specs.Plan.{HeldIn, Read, HasRow, rowed};
+ghost use Rattle.address.specs.Steps.Kept.{keptTitle, keptCode, keptSub};
+ghost use Rattle.address.specs.Steps.Plan.{HeldIn, Read, HasRow, rowed};
 
 // An address that was read; all zeros where it was refused.
 pub struct AddressRead {
@@ -55,7 +55,7 @@ fn nothing() -> SuaAddress
     }
 }
 
-// A refusal, with the record that stands beside it.
+// A refusal, beside a record of zeros.
 pub fn refused(r: Refusal) -> AddressRead
     ensures { λ a. ⌜ (verdictOf (a .verdict) ≡ refusalOf r) × (a .address ≡ noAddress) ⌝ }
 {

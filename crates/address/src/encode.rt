@@ -15,9 +15,9 @@ ghost use Rattle.bcd.specs.Outcome.{accepted, pick, mapped, delivered, deliver}
 ghost use Rattle.bcd.specs.Answers.{countedOf};
 ghost use Rattle.parameter.specs.Parameter.{param, four, runOctets, runLength};
 ghost use Rattle.parameter.specs.Table.{table};
-ghost use Rattle.address.specs.Plan.{Ready};
+ghost use Rattle.address.specs.Steps.Plan.{Ready};
 ghost use Rattle.address.specs.Given.{encodeAddress};
-ghost use Rattle.address.specs.GivenParts.{givenTitle, givenParam, givenHead};
+ghost use Rattle.address.specs.Steps.GivenParts.{givenTitle, givenParam, givenHead};
 
 // What the title takes on the wire, if it is there. 11, 9.
 fn title_length(there: bool, gt: GlobalTitle) -> Counted
@@ -51,14 +51,14 @@ fn encoded_length(
         (encodeAddress address (now (values .entry)) (table (now (tags .entry)) (now (starts .entry)) (now (lengths .entry)))) ⌝ }
 {
     let count = address.other_count;
-    if parameter::outside(values, tags, starts, lengths, count) {
+    if parameter::table::outside(values, tags, starts, lengths, count) {
         return Counted::Refused(Refusal::OutsideSlice);
     }
     let gt = address.global_title;
     match title_length(address.has_title, gt) {
         Counted::Refused(r) => Counted::Refused(r),
         Counted::Count(title) => {
-            match parameter::parameters_length(values, tags, starts, lengths, count) {
+            match parameter::table::parameters_length(values, tags, starts, lengths, count) {
                 Counted::Refused(s) => Counted::Refused(s),
                 Counted::Count(others) => {
                     let code = four_length(address.has_point_code);
@@ -160,7 +160,7 @@ fn write(
     let a = 4 + write_title(address.has_title, gt, &mut out[4..]);
     let b = a + write_four(address.has_point_code, POINT_CODE, code, &mut out[a..]);
     let c = b + write_four(address.has_ssn, SUBSYSTEM_NUMBER, ssn, &mut out[b..]);
-    parameter::encode_parameters(values, tags, starts, lengths, count, &mut out[c..]);
+    parameter::table::encode_parameters(values, tags, starts, lengths, count, &mut out[c..]);
 }
 
 impl SuaAddress {

@@ -18,8 +18,9 @@ ghost use Rattle.bcd.specs.Answers.{numbered, countedOf};
 ghost use Rattle.bcd.specs.Digits.{builtIn};
 ghost use Rattle.parameter.specs.Parameter.{runLength};
 ghost use Rattle.address.specs.Address.{titleAt, title, code, present, subParam};
-ghost use Rattle.address.specs.Parts.{surveyedOf, interpreted, shortNumbers, keptTitle};
-ghost use Rattle.address.specs.Plan.{HeldIn, Read, WrittenAs, PlanOf};
+ghost use Rattle.address.specs.Parts.{surveyedOf, interpreted};
+ghost use Rattle.address.specs.Steps.Kept.{shortNumbers, keptTitle};
+ghost use Rattle.address.specs.Steps.Plan.{HeldIn, Read, WrittenAs, PlanOf};
 
 // The parts of an address value, and how many octets it is written as; or why it is refused.
 pub(crate) enum Planned {

@@ -34,6 +34,7 @@ pub enum Surveyed {
     Refused(Refusal),
 }
 
+// A sub-parameter that is kept.
 fn keep(place: Place) -> Kept
     ensures { λ r. ⌜ r ≡ keptPlace place ⌝ }
 {
@@ -54,6 +55,7 @@ fn first_short(kept: Kept, place: Place, least: usize) -> Kept
 }
 
 impl Parts {
+    // Nothing is kept before the walk.
     fn none() -> Parts
         ensures { λ r. ⌜ r ≡ nothing ⌝ }
     {

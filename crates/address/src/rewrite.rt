@@ -20,9 +20,9 @@ ghost use Rattle.bcd.specs.Digits.{builtIn};
 ghost use Rattle.parameter.specs.Parameter.{runOctets, runLength, mostValue};
 ghost use Rattle.parameter.specs.Walk.{valued};
 ghost use Rattle.address.specs.Address.{titleAt, title, code, sub, present, subParam, readAddress, writeAddress};
-ghost use Rattle.address.specs.Parts.{keptTitle, keptCode, keptSub};
+ghost use Rattle.address.specs.Steps.Kept.{keptTitle, keptCode, keptSub};
 ghost use Rattle.address.specs.Listing.{isOther, otherPlaces};
-ghost use Rattle.address.specs.Plan.{HeldIn, Ready, Walked, Plan, headOctets, othersOctets};
+ghost use Rattle.address.specs.Steps.Plan.{HeldIn, Ready, Walked, Plan, headOctets, othersOctets};
 
 // How many octets an address value has when it is read and written again. Reading's refusals, then 9, then 10.
 pub fn rewritten_length(tag: u16, value: &[u8]) -> Counted

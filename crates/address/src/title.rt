@@ -23,6 +23,7 @@ pub struct TitleRead {
     pub title: GlobalTitle,
 }
 
+// A refusal, beside a title of zeros.
 fn refused(r: Refusal) -> TitleRead
     ensures { λ t. ⌜ titled (verdictOf (t .verdict)) (t .title) ≡ titleRefused (refusalOf r) ⌝ }
 {

@@ -11,7 +11,8 @@ use lib.Seq.{getD-take}
 use lib.Dec.{leb, eqb}
 use borrow.Author.Tests.{le-leb, lt-leb, leb-true, eqb-true}
 use Rattle.bcd.specs.Outcome.{pick}
-use Rattle.bcd.specs.Digits.{Lawful, characters, fold, place, builtIn, nibble}
+use Rattle.bcd.specs.Digits.{Lawful, characters, fold, place, builtIn}
+use Rattle.bcd.specs.Steps.{nibble}
 use Rattle.bcd.proofs.Outcomes.{le-or-lt}
 use Rattle.bcd.proofs.Below.{below-at}
 

@@ -8,7 +8,8 @@ use native.Mathlib.Omega.{arith}
 use lib.ListN.{length, getD, take, length-map}
 use lib.Seq.{take-at, ext-getD}
 use Rattle.bcd.specs.Outcome.{Outcome, accepted, refused, mapped, each, All, Octets}
-use Rattle.bcd.specs.Digits.{Alphabet, Lawful, halves, pack, nibble, written, fold, builtIn, digitsIn, writeDigits, SameCharacters, KnownDigits}
+use Rattle.bcd.specs.Digits.{Alphabet, Lawful, halves, pack, written, fold, builtIn, digitsIn, writeDigits, SameCharacters, KnownDigits}
+use Rattle.bcd.specs.Steps.{nibble}
 use Rattle.bcd.proofs.Outcomes.{accepted-inj, all-take}
 use Rattle.bcd.proofs.Halves.{Nibbles, halves-nibbles, halves-pack, filler}
 use Rattle.bcd.proofs.Characters.{builtIn-lawful, builtIn-written, builtIn-distinct, half-fold, char-half, fold-written}

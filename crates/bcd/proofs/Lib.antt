@@ -1,3 +1,4 @@
+-- Laws and theorems that belong to no one function.
 pub mod Outcomes
 pub mod Writing
 pub mod Distinct

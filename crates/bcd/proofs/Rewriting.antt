@@ -9,7 +9,8 @@ use lib.Dec.{lit<}
 use lib.ListN.{length, getD, take, length-take, length-map, List·getD-eq-default}
 use lib.Seq.{getD-take}
 use Rattle.bcd.specs.Outcome.{Outcome, accepted, refused, after, mapped, All, most}
-use Rattle.bcd.specs.Digits.{halves, pack, characters, nibble, builtIn, digitsIn, readDigits, writeDigits}
+use Rattle.bcd.specs.Digits.{halves, pack, characters, builtIn, digitsIn, readDigits, writeDigits}
+use Rattle.bcd.specs.Steps.{nibble}
 use Rattle.bcd.proofs.Outcomes.{accepted-inj, le-or-lt, bounded-within, bounded-beyond}
 use Rattle.bcd.proofs.Halves.{halves-length, halves-low, halves-high, pack-length}
 use Rattle.bcd.proofs.Characters.{builtIn-lawful, builtIn-written, builtIn-distinct}

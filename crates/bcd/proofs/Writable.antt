@@ -10,7 +10,8 @@ use lib.Seq.{take-suc, take-all}
 use lib.Dec.{leb}
 use borrow.Author.Tests.{le-leb, lt-leb}
 use Rattle.bcd.specs.Outcome.{Outcome, accepted, refused, mapped, each, All}
-use Rattle.bcd.specs.Digits.{Alphabet, Lawful, pack, nibble, written, writeDigits}
+use Rattle.bcd.specs.Digits.{Alphabet, Lawful, pack, written, writeDigits}
+use Rattle.bcd.specs.Steps.{nibble}
 use Rattle.bcd.proofs.Outcomes.{accepted-inj, never, mapped-inv, demand-inv, each-inv, each-more, each-stopped}
 use Rattle.bcd.proofs.Halves.{pack-length}
 

@@ -2,7 +2,7 @@
 use Prim.Native.Nat.{ℕ, suc, _+_, _*_, _/_, _%_, _<_, min}
 use mathlib.Core.Path.{_≡_}
 use mathlib.Core.Bool.{_&&_}
-use mathlib.Core.Option.{Option, none, some, Option·map, Option·getD}
+use mathlib.Core.Option.{Option, none, some, Option·map}
 use mathlib.Core.List.{List, [], _∷_, map}
 use lib.ListN.{length, getD, take}
 use lib.Dec.{leb, eqb}
@@ -73,7 +73,3 @@ abbrev pub SameCharacters : Alphabet → List ℕ → List ℕ → (count : ℕ)
 SameCharacters A xs ys count =
     (min count (2 * length xs) ≡ min count (2 * length ys))
     × ((i : ℕ) → i < min count (2 * length xs) → A .char (getD (halves xs) i 0) ≡ A .char (getD (halves ys) i 0))
-
--- A character's half octet, or 16 where it has none: what a function of the code answers.
-abbrev pub nibble : Alphabet → ℕ → ℕ
-nibble A c = Option·getD (A .half c) 16

@@ -10,7 +10,8 @@ ghost use mathlib.Core.List.{List, map};
 ghost use lib.ListN.{length, getD, replicate};
 ghost use Rattle.bcd.specs.Outcome.{accepted, mapped, All, delivered, deliver};
 ghost use Rattle.bcd.specs.Answers.{countedOf};
-ghost use Rattle.bcd.specs.Digits.{halves, pack, nibble, builtIn, digitsIn, readDigits, writeDigits};
+ghost use Rattle.bcd.specs.Digits.{halves, pack, builtIn, digitsIn, readDigits, writeDigits};
+ghost use Rattle.bcd.specs.Steps.{nibble};
 
 // What reading digits answers: how many there are, or why none were read; and the digits in front of zeros, or zeros
 // alone.

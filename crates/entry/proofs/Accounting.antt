@@ -13,9 +13,9 @@ use Rattle.parameter.specs.declared.Place.{Place}
 use Rattle.parameter.specs.Parameter.{two, four, twoAt}
 use Rattle.parameter.specs.Walk.{valued, places}
 use Rattle.address.specs.Address.{addressIn, readAddress, addressWith}
-use Rattle.address.specs.Parts.{keptTitle, keptCode, keptSub}
+use Rattle.address.specs.Steps.Kept.{keptTitle, keptCode, keptSub}
 use Rattle.address.specs.Listing.{otherPlaces}
-use Rattle.address.specs.Plan.{HeldIn, Read, placesIn}
+use Rattle.address.specs.Steps.Plan.{HeldIn, Read, placesIn}
 use Rattle.address.specs.declared.parts.Kept.{Kept}
 use Rattle.address.specs.declared.parts.Parts.{Parts}
 use Rattle.address.proofs.Keeping.{pieceAt}

@@ -15,7 +15,7 @@ use Rattle.parameter.specs.Parameter.{four, fourIn, twoAt}
 use Rattle.parameter.specs.Walk.{valued}
 use Rattle.parameter.proofs.Running.{part-of}
 use Rattle.address.specs.Address.{titleAt}
-use Rattle.address.specs.Parts.{keptTitle, keptCode, keptSub}
+use Rattle.address.specs.Steps.Kept.{keptTitle, keptCode, keptSub}
 use Rattle.address.specs.Listing.{isOther, otherPlaces}
 use Rattle.address.specs.declared.parts.Kept.{Kept}
 use Rattle.address.proofs.Keeping.{value-at}

@@ -9,7 +9,7 @@ use Rattle.parameter.specs.declared.Place.{Place}
 use Rattle.parameter.specs.Walk.{found, stepAt, places}
 use Rattle.parameter.proofs.Reaching.{Reached, reached-start, reached-next}
 use Rattle.address.specs.Listing.{otherPlaces}
-use Rattle.address.specs.Plan.{placesIn}
+use Rattle.address.specs.Steps.Plan.{placesIn}
 use Rattle.address.proofs.Others.{others-append, others-fewer}
 use Rattle.entry.specs.Account.{placeOctets, placesOctets}
 use Rattle.message.specs.Accessors.{moved}

@@ -1,3 +1,4 @@
+-- Laws and theorems that belong to no one function.
 pub mod Ignored
 pub mod Types
 pub mod Headers

@@ -1,3 +1,4 @@
+-- The definitions, in the order to read them.
 pub mod Types
 pub mod Message
 pub mod Listing

@@ -46,7 +46,7 @@ impl SuaMessage {
             HeaderRead::Refused(r) => MessageRead::Refused(r),
             HeaderRead::Header(h) => {
                 let message_type = h.message_type;
-                match parameter::decode_parameters_from(bytes, 8, tags, starts, lengths) {
+                match parameter::table::decode_parameters_from(bytes, 8, tags, starts, lengths) {
                     Counted::Refused(refusal) => MessageRead::Refused(refusal),
                     Counted::Count(count) => MessageRead::Message(SuaMessage {
                         message_type,
@@ -76,7 +76,7 @@ impl SuaMessage {
     {
         let message_type = self.message_type;
         let count = self.count;
-        match parameter::parameters_length(values, tags, starts, lengths, count) {
+        match parameter::table::parameters_length(values, tags, starts, lengths, count) {
             Counted::Refused(r) => Counted::Refused(r),
             Counted::Count(run) => {
                 let total = parameter::saturating_add(8, run);
@@ -87,7 +87,14 @@ impl SuaMessage {
                     return Counted::Refused(Refusal::OutputTooSmall(total));
                 }
                 CommonHeader::new(message_type, total as u32).encode(out);
-                parameter::encode_parameters(values, tags, starts, lengths, count, &mut out[8..]);
+                parameter::table::encode_parameters(
+                    values,
+                    tags,
+                    starts,
+                    lengths,
+                    count,
+                    &mut out[8..],
+                );
                 Counted::Count(total)
             }
         }

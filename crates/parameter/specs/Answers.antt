@@ -11,8 +11,8 @@ use Rattle.parameter.specs.declared.One.{One}
 use Rattle.parameter.specs.declared.One.the-variants as O
 use Rattle.parameter.specs.declared.Number.{Number}
 use Rattle.parameter.specs.declared.Number.the-variants as N
-use Rattle.parameter.specs.declared.Found.{Found}
-use Rattle.parameter.specs.declared.Found.the-variants as F
+use Rattle.parameter.specs.declared.table.Found.{Found}
+use Rattle.parameter.specs.declared.table.Found.the-variants as F
 
 abbrev pub stepOf : Step → Outcome Walked
 stepOf (S.Parameter p c) = accepted (found p (c .at))

@@ -2,7 +2,8 @@
 use mathlib.Core.Path.{sym, ap}
 use mathlib.Core.Logic.{inl, inr, ⊎-elim}
 use native.Mathlib.Omega.{arith}
-use Rattle.bcd.specs.Digits.{nibble, builtIn}
+use Rattle.bcd.specs.Digits.{builtIn}
+use Rattle.bcd.specs.Steps.{nibble}
 use Rattle.bcd.proofs.Characters.{nibble-decimal, nibble-none}
 use Rattle.bcd.proofs.char_to_nibble.Statement.{statement}
 use Rattle.bcd.proofs.char_to_nibble.Tie as tie

@@ -5,7 +5,8 @@ use mathlib.Core.Path.{refl, sym, ap, _∙_}
 use native.Mathlib.Omega.{arith}
 use lib.ListN.{length, getD}
 use Rattle.bcd.specs.Outcome.{mapped, accepted}
-use Rattle.bcd.specs.Digits.{nibble, builtIn}
+use Rattle.bcd.specs.Digits.{builtIn}
+use Rattle.bcd.specs.Steps.{nibble}
 use Rattle.bcd.proofs.Characters.{builtIn-lawful}
 use Rattle.bcd.proofs.Writable.{Checked, too-many, checked-more, checked-bad, checked-all, packed-length}
 use Rattle.bcd.proofs.gt_digits_length.Statement.{statement}

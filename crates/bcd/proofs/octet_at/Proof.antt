@@ -3,7 +3,8 @@ use mathlib.Core.Path.{ap₂, _∙_}
 use Prim.Native.Nat.{ℕ, _+_, _*_, _≤_}
 use native.Mathlib.Omega.{arith}
 use lib.ListN.{getD}
-use Rattle.bcd.specs.Digits.{nibble, builtIn}
+use Rattle.bcd.specs.Digits.{builtIn}
+use Rattle.bcd.specs.Steps.{nibble}
 use Rattle.bcd.proofs.Outcomes.{all-at}
 use Rattle.bcd.proofs.Reading.{octet-two, octet-one}
 use borrow.Author.Needs.{needs}

@@ -6,7 +6,8 @@ use mathlib.Core.List.{map}
 use native.Mathlib.Omega.{arith}
 use lib.ListN.{take, set}
 use lib.Seq.{take-all}
-use Rattle.bcd.specs.Digits.{pack, nibble, builtIn}
+use Rattle.bcd.specs.Digits.{pack, builtIn}
+use Rattle.bcd.specs.Steps.{nibble}
 use Rattle.bcd.proofs.Characters.{builtIn-lawful}
 use Rattle.bcd.proofs.Writing.{Begun, store-next, delivered}
 use Rattle.bcd.proofs.Writable.{Good, write-inv, packed-length}

@@ -11,9 +11,9 @@ use Rattle.parameter.specs.declared.Place.{Place}
 use Rattle.parameter.specs.Parameter.{two, four, twoAt}
 use Rattle.parameter.specs.Walk.{places}
 use Rattle.address.specs.declared.parts.Parts.{Parts}
-use Rattle.address.specs.Parts.{keptTitle, keptCode, keptSub}
+use Rattle.address.specs.Steps.Kept.{keptTitle, keptCode, keptSub}
 use Rattle.address.specs.Listing.{otherPlaces}
-use Rattle.address.specs.Plan.{placesIn}
+use Rattle.address.specs.Steps.Plan.{placesIn}
 use Rattle.entry.specs.declared.account.Accounts.{Accounts}
 use Rattle.entry.specs.Account.{placesOctets, marked, titleFields, paramAccount}
 use Rattle.message.specs.Accessors.{moved}

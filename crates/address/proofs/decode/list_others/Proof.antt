@@ -9,7 +9,7 @@ use Rattle.parameter.specs.Walk.{stepAt}
 use Rattle.parameter.specs.Answers.{stepOf}
 use Rattle.parameter.specs.declared.Step.{Step}
 use Rattle.parameter.proofs.Reaching.{reached-out, reached-end, reached-refused}
-use Rattle.address.specs.Plan.{HasRow}
+use Rattle.address.specs.Steps.Plan.{HasRow}
 use Rattle.address.proofs.Tabling.{Turn, Tabling, tabling-start, tabling-turn, tabling-next, tabled}
 use Rattle.address.proofs.decode.list_others.Statement.{statement}
 use Rattle.address.proofs.decode.list_others.Tie as tie

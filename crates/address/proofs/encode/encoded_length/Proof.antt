@@ -12,7 +12,7 @@ use Rattle.parameter.specs.Parameter.{Param, runLength, encodeParam}
 use Rattle.parameter.specs.Walk.{valued}
 use Rattle.parameter.specs.Table.{Table, rows, records}
 use Rattle.parameter.proofs.Records.{told-outside}
-use Rattle.address.specs.GivenParts.{givenTitle}
+use Rattle.address.specs.Steps.GivenParts.{givenTitle}
 use Rattle.address.proofs.Planning.{mapped-refused}
 use Rattle.address.proofs.GivenParts.{title-small}
 use Rattle.address.proofs.Encoding.{eight, given-outside, given-untitled, given-refused, given-long, given-counted}

@@ -10,7 +10,7 @@ use Rattle.bcd.specs.Answers.{countedOf}
 use Rattle.bcd.specs.Digits.{builtIn, writeDigits}
 use Rattle.bcd.specs.declared.error.Counted.{Counted}
 use Rattle.parameter.specs.Parameter.{runLength}
-use Rattle.address.specs.GivenParts.{givenTitle}
+use Rattle.address.specs.Steps.GivenParts.{givenTitle}
 use Rattle.address.proofs.Planning.{digits-small}
 use Rattle.address.proofs.GivenParts.{title-many, title-counted, title-none}
 use Rattle.address.proofs.encode.title_length.Statement.{statement}

@@ -10,7 +10,7 @@ use Rattle.bcd.specs.Outcome.{accepted}
 use Rattle.bcd.proofs.Writing.{Begun, begin}
 use Rattle.parameter.specs.Parameter.{runOctets}
 use Rattle.parameter.specs.Table.{Table}
-use Rattle.address.specs.GivenParts.{givenHead}
+use Rattle.address.specs.Steps.GivenParts.{givenHead}
 use Rattle.address.proofs.Planning.{codeParam, subOne}
 use Rattle.address.proofs.Delivering.{Wrote, ready-behind, wrote}
 use Rattle.address.proofs.Encoding.{codesOf, subsOf, given-one, code-known, Known, given-known, four-behind, given-done}

@@ -1,7 +1,7 @@
 -- `address::interpret::interpret` meets its contract.
 use borrow.Author.Needs.{needs}
 use mathlib.Core.Path.{_≡_, subst}
-use Rattle.address.specs.Plan.{ReadAs}
+use Rattle.address.specs.Steps.Plan.{ReadAs}
 use Rattle.address.specs.declared.interpret.Planned.{Planned}
 use Rattle.address.proofs.Interpreted.{read-interpreted, refused-interpreted}
 use Rattle.address.proofs.interpret.interpret.Statement.{statement}

@@ -10,7 +10,7 @@ use Rattle.bcd.specs.Digits.{builtIn}
 use Rattle.bcd.specs.declared.error.Counted.{Counted}
 use Rattle.parameter.specs.Parameter.{runLength}
 use Rattle.address.specs.Address.{title, present, subParam}
-use Rattle.address.specs.Parts.{keptTitle}
+use Rattle.address.specs.Steps.Kept.{keptTitle}
 use Rattle.address.proofs.Planning.{sound, others-small, kept-small, mapped-refused}
 use Rattle.address.proofs.Plans.{plan-unknown, plan-long, plan-made}
 use Rattle.address.proofs.interpret.measure.Statement.{statement}

@@ -3,7 +3,7 @@ use borrow.Author.Needs.{needs}
 use mathlib.Core.Path.{_≡_, sym, ap, _∙_}
 use Rattle.bcd.proofs.Outcomes.{octets-of}
 use Rattle.address.specs.Parts.{surveyedOf, interpreted}
-use Rattle.address.specs.Plan.{Read}
+use Rattle.address.specs.Steps.Plan.{Read}
 use Rattle.address.specs.declared.parts.Surveyed.{Surveyed}
 use Rattle.address.proofs.Interpreted.{interpreted-read, interpreted-refused}
 use Rattle.address.proofs.Plans.{plan-refused}

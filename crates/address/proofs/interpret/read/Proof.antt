@@ -8,7 +8,7 @@ use Rattle.bcd.proofs.Outcomes.{octets-of, bounded-within}
 use Rattle.parameter.specs.Parameter.{twoAt}
 use Rattle.parameter.specs.Walk.{places}
 use Rattle.address.specs.Parts.{nothing, noteAll, surveyedOf}
-use Rattle.address.specs.Plan.{Walked}
+use Rattle.address.specs.Steps.Plan.{Walked}
 use Rattle.address.specs.declared.parts.Parts.{Parts}
 use Rattle.address.specs.declared.parts.Surveyed.{Surveyed}
 use Rattle.address.specs.declared.parts.Surveyed.the-variants as S

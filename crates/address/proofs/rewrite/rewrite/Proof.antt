@@ -5,7 +5,7 @@ use Prim.Native.Nat.{ℕ}
 use mathlib.Core.Path.{sym, ap, subst, _∙_}
 use Rattle.bcd.specs.Outcome.{Outcome, deliver}
 use Rattle.bcd.proofs.Outcomes.{deliver-refused, deliver-too-long}
-use Rattle.address.specs.Plan.{WrittenAs}
+use Rattle.address.specs.Steps.Plan.{WrittenAs}
 use Rattle.address.proofs.Plans.{plan-length}
 use Rattle.address.proofs.Delivering.{any-tag}
 use Rattle.address.proofs.rewrite.rewrite.Statement.{statement}

@@ -3,7 +3,7 @@ use borrow.Author.Needs.{needs}
 use mathlib.Core.Path.{sym, ap, subst}
 use lib.ListN.{length}
 use Rattle.bcd.specs.Outcome.{mapped}
-use Rattle.address.specs.Plan.{WrittenAs}
+use Rattle.address.specs.Steps.Plan.{WrittenAs}
 use Rattle.address.proofs.Plans.{plan-length}
 use Rattle.address.proofs.rewrite.rewritten_length.Statement.{statement}
 use Rattle.address.proofs.rewrite.rewritten_length.Tie as tie

@@ -9,8 +9,8 @@ use borrow.Rule.Slice.PartMut.{putMid}
 use Rattle.bcd.proofs.Writing.{Begun, begin}
 use Rattle.parameter.specs.Parameter.{Param, runOctets}
 use Rattle.address.specs.Address.{title, code}
-use Rattle.address.specs.Parts.{keptCode, keptSub}
-use Rattle.address.specs.Plan.{headOctets}
+use Rattle.address.specs.Steps.Kept.{keptCode, keptSub}
+use Rattle.address.specs.Steps.Plan.{headOctets}
 use Rattle.address.proofs.Planning.{sound, code-params, sub-params}
 use Rattle.address.proofs.Copying.{lent-length}
 use Rattle.address.proofs.Delivering.{Wrote, ready-behind, wrote, planned-pieces, codes, subs, planned-length, planned-others, planned-done}

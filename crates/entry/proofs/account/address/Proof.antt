@@ -5,7 +5,7 @@ use Rattle.address.specs.declared.parts.Surveyed.{Surveyed}
 use Rattle.address.specs.declared.parts.Surveyed.the-variants as S
 use Rattle.address.specs.declared.parts.Parts.{Parts}
 use Rattle.address.specs.Parts.{surveyedOf, interpreted}
-use Rattle.address.specs.Plan.{Read}
+use Rattle.address.specs.Steps.Plan.{Read}
 use Rattle.address.proofs.Interpreted.{interpreted-read, interpreted-refused}
 use Rattle.bcd.proofs.Outcomes.{octets-of}
 use Rattle.entry.proofs.Accounting.{parts-small, account-read, account-refused, tried-refused, tried-done}

@@ -1,4 +1,4 @@
--- `parameter::write_run` meets its contract: the loop has written the first i parameters.
+-- `parameter::table::write_run` meets its contract: the loop has written the first i parameters.
 use borrow.Author.Needs.{needs}
 use Prim.Native.Nat.{_-_, _≤_}
 use mathlib.Core.List.{map}
@@ -7,8 +7,8 @@ use lib.ListN.{length, getD, drop, length-take, length-drop}
 use Rattle.parameter.specs.Walk.{valued}
 use Rattle.parameter.proofs.Records.{firstRows, held-length}
 use Rattle.parameter.proofs.Running.{Ready, ready, Running, Turn, running-start, running-turn, running-next, running-all, part-of, part-length}
-use Rattle.parameter.proofs.write_run.Statement.{statement}
-use Rattle.parameter.proofs.write_run.Tie as tie
+use Rattle.parameter.proofs.table.write_run.Statement.{statement}
+use Rattle.parameter.proofs.table.write_run.Tie as tie
 
 abbrev Inv-loop : tie.InvT-loop
 Inv-loop values tags starts lengths count total out₀ at₀ i₀ out at i = (i ≤ count) × Ready values tags starts lengths count total × Running (map (valued values) (firstRows tags starts lengths count)) out₀ out i at

@@ -1,4 +1,4 @@
--- `parameter::outside` meets its contract: the loop has found the first i records inside.
+-- `parameter::table::outside` meets its contract: the loop has found the first i records inside.
 use borrow.Author.Needs.{needs}
 use Prim.Native.Nat.{_-_, _≤_}
 use mathlib.Core.Path.{refl}
@@ -6,8 +6,8 @@ use native.Mathlib.Omega.{arith}
 use Rattle.parameter.specs.Table.{Table}
 use Rattle.parameter.proofs.Filling.{small-tags, small-starts, small-lengths}
 use Rattle.parameter.proofs.Records.{firstRows, Inside, records-few, check-more, check-outside, check-all}
-use Rattle.parameter.proofs.outside.Statement.{statement}
-use Rattle.parameter.proofs.outside.Tie as tie
+use Rattle.parameter.proofs.table.outside.Statement.{statement}
+use Rattle.parameter.proofs.table.outside.Tie as tie
 
 abbrev Inv-loop : tie.InvT-loop
 Inv-loop values tags starts lengths count n i₀ i = (i ≤ count) × Inside values (firstRows tags starts lengths count) i

@@ -1,4 +1,4 @@
--- `parameter::encode_parameters` meets its contract: the length that was answered is the definition's.
+-- `parameter::table::encode_parameters` meets its contract: the length that was answered is the definition's.
 use mathlib.Core.Path.{_≡_, sym, ap, _∙_}
 use mathlib.Core.List.{List}
 use Prim.Native.Nat.{ℕ}
@@ -10,8 +10,8 @@ use Rattle.parameter.specs.Parameter.{Param, encodeParam}
 use Rattle.parameter.specs.Table.{records}
 use Rattle.parameter.proofs.Running.{encoded-list, sum-large, sum-exact, sum-writable, sum-refused}
 use borrow.Author.Needs.{needs}
-use Rattle.parameter.proofs.encode_parameters.Statement.{statement}
-use Rattle.parameter.proofs.encode_parameters.Tie as tie
+use Rattle.parameter.proofs.table.encode_parameters.Statement.{statement}
+use Rattle.parameter.proofs.table.encode_parameters.Tie as tie
 
 abbrev listed : tie.Start → Outcome (List Param)
 listed s = records (s .args .values .now) (record { tags = s .args .tags .now; starts = s .args .starts .now; lengths = s .args .lengths .now }) (s .args .count)

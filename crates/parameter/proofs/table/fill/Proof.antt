@@ -1,4 +1,4 @@
--- `parameter::fill` meets its contract: the loop has stored n places.
+-- `parameter::table::fill` meets its contract: the loop has stored n places.
 use borrow.Author.Needs.{needs}
 use Prim.Native.Nat.{_-_, _≤_, _<_}
 use mathlib.Core.Path.{_≡_, sym, ap, _∙_}
@@ -11,8 +11,8 @@ use Rattle.parameter.specs.Walk.{stepAt, places}
 use Rattle.parameter.specs.Answers.{stepOf}
 use Rattle.parameter.proofs.Reaching.{counted-within, counted-places, same-count, reached-short, reached-all, reached-end, reached-refused}
 use Rattle.parameter.proofs.Filling.{Filling, filling-start, filling-next, filled}
-use Rattle.parameter.proofs.fill.Statement.{statement}
-use Rattle.parameter.proofs.fill.Tie as tie
+use Rattle.parameter.proofs.table.fill.Statement.{statement}
+use Rattle.parameter.proofs.table.fill.Tie as tie
 
 abbrev Inv-loop : tie.InvT-loop
 Inv-loop bytes from count tags₀ starts₀ lengths₀ c₀ n₀ tags starts lengths c n = (n ≤ count) × Filling bytes from tags₀ starts₀ lengths₀ tags starts lengths n (c .at)

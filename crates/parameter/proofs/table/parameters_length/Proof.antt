@@ -1,4 +1,4 @@
--- `parameter::parameters_length` meets its contract: the loop has measured the first i parameters.
+-- `parameter::table::parameters_length` meets its contract: the loop has measured the first i parameters.
 use borrow.Author.Needs.{needs}
 use Prim.Native.Nat.{ℕ, _-_, _≤_}
 use mathlib.Core.List.{List, map}
@@ -9,8 +9,8 @@ use Rattle.parameter.specs.Walk.{valued}
 use Rattle.parameter.specs.Table.{Table, records}
 use Rattle.parameter.proofs.Records.{firstRows, Held, told-outside, told-held, held-length, held-param, held-value}
 use Rattle.parameter.proofs.Running.{Measured, measured-start, measured-more, measured-stopped, measured-all}
-use Rattle.parameter.proofs.parameters_length.Statement.{statement}
-use Rattle.parameter.proofs.parameters_length.Tie as tie
+use Rattle.parameter.proofs.table.parameters_length.Statement.{statement}
+use Rattle.parameter.proofs.table.parameters_length.Tie as tie
 
 abbrev Inv-loop : tie.InvT-loop
 Inv-loop values tags starts lengths count total₀ i₀ total i = (i ≤ count) × Held values tags starts lengths count × Measured (map (valued values) (firstRows tags starts lengths count)) i total

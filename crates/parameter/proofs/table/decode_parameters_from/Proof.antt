@@ -1,4 +1,4 @@
--- `parameter::decode_parameters_from` meets its contract: the count that was answered is the definition's.
+-- `parameter::table::decode_parameters_from` meets its contract: the count that was answered is the definition's.
 use mathlib.Core.Path.{_≡_, sym, ap, _∙_}
 use mathlib.Core.List.{List}
 use lib.ListN.{length}
@@ -8,8 +8,8 @@ use Rattle.parameter.specs.declared.Place.{Place}
 use Rattle.parameter.specs.Walk.{places}
 use Rattle.parameter.proofs.Filling.{table-small, table-refused, small-tags, small-starts, small-lengths}
 use borrow.Author.Needs.{needs}
-use Rattle.parameter.proofs.decode_parameters_from.Statement.{statement}
-use Rattle.parameter.proofs.decode_parameters_from.Tie as tie
+use Rattle.parameter.proofs.table.decode_parameters_from.Statement.{statement}
+use Rattle.parameter.proofs.table.decode_parameters_from.Tie as tie
 
 abbrev walked : tie.Start → Outcome (List Place)
 walked s = bounded (s .args .bytes .now) (places (s .args .bytes .now) (s .args .from))

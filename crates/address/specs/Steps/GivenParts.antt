@@ -1,5 +1,4 @@
--- Steps of the code between its public calls: the parts that are written of an address that is given by its record. No
--- public contract cites these.
+-- The parts that are written of an address that is given by its record.
 use mathlib.Core.Bool.{Bool}
 use mathlib.Core.List.{List, [], _∷_, _++_}
 use Prim.Native.Nat.{ℕ}

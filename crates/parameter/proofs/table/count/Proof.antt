@@ -1,4 +1,4 @@
--- `parameter::count` meets its contract: the loop has walked n parameters.
+-- `parameter::table::count` meets its contract: the loop has walked n parameters.
 use borrow.Author.Needs.{needs}
 use Prim.Native.Nat.{ℕ, _-_, _≤_}
 use mathlib.Core.Path.{_≡_, sym, ap, _∙_}
@@ -10,8 +10,8 @@ use Rattle.parameter.specs.declared.Step.{Step}
 use Rattle.parameter.specs.Walk.{stepAt, places}
 use Rattle.parameter.specs.Answers.{stepOf}
 use Rattle.parameter.proofs.Reaching.{Reached, reached-start, reached-out, reached-next, reached-end, reached-refused}
-use Rattle.parameter.proofs.count.Statement.{statement}
-use Rattle.parameter.proofs.count.Tie as tie
+use Rattle.parameter.proofs.table.count.Statement.{statement}
+use Rattle.parameter.proofs.table.count.Tie as tie
 
 abbrev Inv-loop : tie.InvT-loop
 Inv-loop bytes from c₀ n₀ c n = Reached bytes from n (c .at)

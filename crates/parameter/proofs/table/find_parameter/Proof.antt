@@ -1,4 +1,4 @@
--- `parameter::find_parameter` meets its contract: none of the first records has the tag.
+-- `parameter::table::find_parameter` meets its contract: none of the first records has the tag.
 use borrow.Author.Needs.{needs}
 use Prim.Native.Nat.{_-_, _≤_}
 use mathlib.Core.Path.{_≡_, refl, sym, ap, _∙_}
@@ -10,8 +10,8 @@ use Rattle.bcd.specs.Outcome.{accepted}
 use Rattle.parameter.specs.declared.Place.{Place}
 use Rattle.parameter.specs.Table.{Table, records, firstWith}
 use Rattle.parameter.proofs.Records.{firstRows, Held, told-outside, told-held, held-rows, held-row, first-more, first-found, find-outside, find-first}
-use Rattle.parameter.proofs.find_parameter.Statement.{statement}
-use Rattle.parameter.proofs.find_parameter.Tie as tie
+use Rattle.parameter.proofs.table.find_parameter.Statement.{statement}
+use Rattle.parameter.proofs.table.find_parameter.Tie as tie
 
 abbrev Inv-loop : tie.InvT-loop
 Inv-loop values tags starts lengths count tag row₀ row = (row ≤ count) × Held values tags starts lengths count × (firstWith tag (take row (firstRows tags starts lengths count)) ≡ none)

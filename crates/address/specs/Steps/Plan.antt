@@ -1,5 +1,4 @@
--- Steps of the code between its public calls: an address value that was interpreted, and can be written. No public
--- contract cites these.
+-- An address value that was interpreted, and can be written.
 use Prim.Native.Nat.{ℕ, _+_, _%_, _≤_, _<_}
 use mathlib.Core.Path.{_≡_}
 use mathlib.Core.Bool.{Bool, true, false}
@@ -13,7 +12,8 @@ use Rattle.parameter.specs.Walk
 use Rattle.parameter.specs.Walk.{valued}
 use Rattle.parameter.specs.declared.Place.{Place}
 use Rattle.address.specs.Address.{subParam, readAddress, writeAddress}
-use Rattle.address.specs.Parts.{nothing, noteAll, keptPieces}
+use Rattle.address.specs.Parts.{nothing, noteAll}
+use Rattle.address.specs.Steps.Kept.{keptPieces}
 use Rattle.address.specs.Listing.{isOther, otherPlaces}
 use Rattle.address.specs.declared.parts.Kept.{Kept}
 use Rattle.address.specs.declared.parts.Parts.{Parts}

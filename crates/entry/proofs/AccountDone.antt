@@ -16,7 +16,7 @@ use Rattle.message.specs.declared.header.CommonHeader.{CommonHeader}
 use Rattle.message.specs.Types.{classOf, typeOf}
 use Rattle.message.specs.Message.{readHeader}
 use Rattle.entry.specs.Account.{paramAccount, account}
-use Rattle.entry.specs.steps.Emitting.{emit, accounts}
+use Rattle.entry.specs.Steps.Emitting.{emit, accounts}
 use Rattle.entry.proofs.Emission.{emit-begun}
 
 pub account-unread : (xs : List ℕ) (n : ℕ) (vs : List ℕ) → readHeader xs ≡ refused n vs → account builtIn xs ≡ refused n vs

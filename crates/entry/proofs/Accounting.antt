@@ -26,7 +26,7 @@ use Rattle.address.proofs.Interpreted.{read-whole}
 use Rattle.form.specs.Form.{isAddress}
 use Rattle.entry.specs.Account.{placeOctets, marked, titleFields, addressFields, addressAccount, paramAccount}
 use Rattle.message.specs.Accessors.{moved}
-use Rattle.entry.specs.steps.Emitting.{emit, Emitted, Tried, othersFields, partsFields, Further}
+use Rattle.entry.specs.Steps.Emitting.{emit, Emitted, Tried, othersFields, partsFields, Further}
 use Rattle.entry.proofs.Emission.{emitted-more}
 use Rattle.address.proofs.Keeping.{value-at}
 use Rattle.address.proofs.Others.{count-known, walk-few}

@@ -21,7 +21,7 @@ use Rattle.address.specs.declared.parts.Kept.{Kept}
 use Rattle.address.proofs.Keeping.{value-at}
 use Rattle.entry.specs.Account.{placeOctets, placesOctets, marked, titleFields}
 use Rattle.message.specs.Accessors.{moved}
-use Rattle.entry.specs.steps.Emitting.{Emitted}
+use Rattle.entry.specs.Steps.Emitting.{Emitted}
 
 -- the digits that were read
 pub record DigitsRead (w : List ℕ) (count n : ℕ) (ds : List ℕ) : Type 0 where

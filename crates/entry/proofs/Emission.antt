@@ -11,7 +11,7 @@ use lib.Seq.{take-suc}
 use borrow.Author.Tests.{lt-ltb, le-ltb}
 use Rattle.bcd.specs.Outcome.{pick}
 use Rattle.bcd.proofs.Writing.{Begun, store}
-use Rattle.entry.specs.steps.Emitting.{stored, emit, Emitted}
+use Rattle.entry.specs.Steps.Emitting.{stored, emit, Emitted}
 
 pub stored-length : (d : List ℕ) (at v : ℕ) → length (stored d at v) ≡ length d
 stored-length d at v = go (ltb at (length d))

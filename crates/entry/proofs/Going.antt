@@ -10,9 +10,9 @@ use Rattle.bcd.proofs.Outcomes.{accepted-inj, never}
 use Rattle.parameter.specs.declared.Place.{Place}
 use Rattle.parameter.specs.Walk.{found, stepAt, places}
 use Rattle.parameter.proofs.Reaching.{Reached, reached-start, reached-next}
-use Rattle.form.specs.steps.Passes.{sumOf}
+use Rattle.form.specs.Steps.Passes.{sumOf}
 use Rattle.entry.specs.Account.{paramAccount}
-use Rattle.entry.specs.steps.Emitting.{emit, Tried, Further, accounts}
+use Rattle.entry.specs.Steps.Emitting.{emit, Tried, Further, accounts}
 use Rattle.form.proofs.Passes.{each-last}
 use Rattle.entry.proofs.Emission.{emit-append}
 

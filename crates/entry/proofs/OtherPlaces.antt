@@ -13,7 +13,7 @@ use Rattle.address.specs.Steps.Plan.{placesIn}
 use Rattle.address.proofs.Others.{others-append, others-fewer}
 use Rattle.entry.specs.Account.{placeOctets, placesOctets}
 use Rattle.message.specs.Accessors.{moved}
-use Rattle.entry.specs.steps.Emitting.{Emitted}
+use Rattle.entry.specs.Steps.Emitting.{Emitted}
 use Rattle.entry.proofs.Emission.{emitted-none, emitted-more}
 
 abbrev pub listed : (base : ℕ) → List Place → List ℕ

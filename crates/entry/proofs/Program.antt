@@ -20,7 +20,7 @@ use Rattle.parameter.specs.Walk.{headed, stepAt, steps, places, parameters}
 use Rattle.message.specs.Types.{fromClassType}
 use Rattle.message.specs.Message.{readHeader, readMessage, messageOctets, writeMessage}
 use Rattle.form.specs.Form.{settledParam, settled}
-use Rattle.form.specs.steps.Passes.{sumOf}
+use Rattle.form.specs.Steps.Passes.{sumOf}
 use Rattle.form.proofs.Demand3.{form-room}
 use Rattle.entry.specs.Line.{decimalIn, decimal, wordsFrom, formText, formLine, refusedLine, mostTaken, mostPrinted, settledInput, lineOf, programLine, Printed}
 use Rattle.entry.proofs.Lines.{decimal-one, decimal-digits, decimal-short, words-length}

@@ -27,10 +27,10 @@ ghost use Rattle.address.specs.Address.{titleAt};
 ghost use Rattle.address.specs.Steps.Kept.{keptTitle, keptCode, keptSub};
 ghost use Rattle.address.specs.Listing.{otherPlaces};
 ghost use Rattle.address.specs.Steps.Plan.{HeldIn, Read};
-ghost use Rattle.form.specs.steps.Passes.{sumOf};
+ghost use Rattle.form.specs.Steps.Passes.{sumOf};
 ghost use Rattle.entry.specs.Account.{placeOctets, placesOctets, marked, titleFields, addressAccount, account};
 ghost use Rattle.message.specs.Accessors.{moved};
-ghost use Rattle.entry.specs.steps.Emitting.{Emitted, Tried, othersFields, partsFields, Further, Accounted};
+ghost use Rattle.entry.specs.Steps.Emitting.{Emitted, Tried, othersFields, partsFields, Further, Accounted};
 
 // Where the account of the parameters ends, or why it is refused; and how many parameters there are.
 struct Accounts {

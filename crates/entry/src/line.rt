@@ -9,7 +9,7 @@ ghost use mathlib.Core.List.{_++_};
 ghost use lib.ListN.{length, take, drop};
 ghost use Rattle.bcd.specs.Outcome.{accepted, delivered, deliver, most};
 ghost use Rattle.bcd.specs.Answers.{countedOf, numbered};
-ghost use Rattle.form.specs.steps.Passes.{sumOf};
+ghost use Rattle.form.specs.Steps.Passes.{sumOf};
 ghost use Rattle.parameter.specs.Table.{over};
 ghost use Rattle.entry.specs.Line.{decimal, hex, space, words, between};
 ghost use Rattle.entry.specs.Line.{formText, formLine, refusedLine, mostTaken, mostPrinted, Printed};

@@ -17,7 +17,7 @@ use Rattle.message.specs.declared.header.CommonHeader.{CommonHeader}
 use Rattle.message.specs.Message.{readHeader, messageOctets}
 use Rattle.message.proofs.Messages.{message-length}
 use Rattle.form.specs.Form.{settledParam}
-use Rattle.form.specs.steps.Passes.{settledRun, sumOf}
+use Rattle.form.specs.Steps.Passes.{settledRun, sumOf}
 use Rattle.form.proofs.Demand3.{form-room}
 use Rattle.form.proofs.Passes.{settled-run, run-walked, run-refused, taken, taken-more, sum-small, valued-length}
 

@@ -23,7 +23,7 @@ use Rattle.message.specs.Message.{Message, readHeader, readMessage, messageOcte
 use Rattle.message.proofs.Messages.{message-length}
 use Rattle.message.proofs.Listing.{framed}
 use Rattle.form.specs.Form.{isAddress, settledParam, settled}
-use Rattle.form.specs.steps.Passes.{settledRun, sumOf}
+use Rattle.form.specs.Steps.Passes.{settledRun, sumOf}
 use Rattle.form.proofs.Settling.{settled-unread}
 use Rattle.form.proofs.Sua.{settled-plain}
 

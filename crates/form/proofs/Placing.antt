@@ -16,7 +16,7 @@ use Rattle.parameter.proofs.Encoding.{encode-within}
 use Rattle.parameter.proofs.InPlace.{framed-there}
 use Rattle.address.specs.Address.{readAddress, writeAddress, rewriteAddress}
 use Rattle.form.specs.Form.{isAddress, settledParam}
-use Rattle.form.specs.steps.Passes.{Placeable}
+use Rattle.form.specs.Steps.Passes.{Placeable}
 use Rattle.form.proofs.Passes.{settled-address, settled-raw, one-length, one-octets, rewrite-read, rewrite-small}
 
 -- A parameter that is not an address is written as it is.

@@ -18,7 +18,7 @@ use Rattle.parameter.proofs.Running.{part-length}
 use Rattle.parameter.proofs.Walking.{step-inv}
 use Rattle.parameter.proofs.Reaching.{Reached, reached-start, reached-out, reached-next, reached-end, reached-refused, turn as one-turn}
 use Rattle.form.specs.Form.{settledParam}
-use Rattle.form.specs.steps.Passes.{settledRun, Placeable}
+use Rattle.form.specs.Steps.Passes.{settledRun, Placeable}
 use Rattle.form.proofs.Passes.{run-walked, run-refused, valued-part}
 use Rattle.form.proofs.Measuring.{found-small}
 

@@ -1,5 +1,6 @@
+-- The definitions, in the order to read them. `Steps` holds what only contracts of private functions cite.
 pub mod Form
 pub mod HasForm
 pub mod Standing
 pub mod Worked
-pub mod steps
+pub mod Steps

@@ -17,7 +17,7 @@ ghost use Rattle.bcd.specs.Digits.{builtIn};
 ghost use Rattle.parameter.specs.Parameter.{Param, param, mostValue, runOctets, runLength};
 ghost use Rattle.parameter.specs.Walk.{valued};
 ghost use Rattle.form.specs.Form.{isAddress, settledParam, settled};
-ghost use Rattle.form.specs.steps.Passes.{settledRun, sumOf, Placeable};
+ghost use Rattle.form.specs.Steps.Passes.{settledRun, sumOf, Placeable};
 
 // Whether a parameter is a source or a destination address.
 pub fn is_address(tag: u16) -> bool

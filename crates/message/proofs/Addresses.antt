@@ -19,7 +19,7 @@ use Rattle.parameter.proofs.Walking.{places-inside}
 use Rattle.parameter.proofs.Filling.{tagOf, startOf, lengthOf}
 use Rattle.address.specs.Address.{Address, addressWith, readAddress}
 use Rattle.address.specs.Listing.{otherPlaces, addressPlaces, noAddress, recordIn, Listed, listAddress}
-use Rattle.address.specs.Plan.{Read}
+use Rattle.address.specs.Steps.Plan.{Read}
 use Rattle.address.specs.declared.SuaAddress.{SuaAddress}
 use Rattle.address.specs.declared.parts.Parts.{Parts}
 use Rattle.address.proofs.Interpreting.{others-hold}

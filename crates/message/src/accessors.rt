@@ -6,8 +6,8 @@ use address::decode::AddressRead;
 use address::decode::refused;
 use bcd::error::Counted;
 use bcd::error::Refusal;
-use parameter::Found;
 use parameter::Number;
+use parameter::table::Found;
 use parameter::tags::AFFECTED_POINT_CODE;
 use parameter::tags::DATA;
 use parameter::tags::DESTINATION_ADDRESS;
@@ -68,7 +68,7 @@ fn first_number(
         numberOf r ≡ firstRead (ofFour fourIn) tag (now (values .entry))
         (table (now (tags .entry)) (now (starts .entry)) (now (lengths .entry))) count ⌝ }
 {
-    match parameter::find_parameter(values, tags, starts, lengths, count, tag) {
+    match parameter::table::find_parameter(values, tags, starts, lengths, count, tag) {
         Found::Refused(r) => Number::Refused(r),
         Found::None => Number::None,
         Found::At(place) => {
@@ -141,7 +141,7 @@ fn first_address(
         (findParam (now (values .entry)) (table (now (tags .entry)) (now (starts .entry)) (now (lengths .entry))) count tag)
         (table (now («other_tags» .entry)) (now («other_starts» .entry)) (now («other_lengths» .entry))) ⌝ }
 {
-    match parameter::find_parameter(values, tags, starts, lengths, count, tag) {
+    match parameter::table::find_parameter(values, tags, starts, lengths, count, tag) {
         Found::Refused(r) => refused(r),
         Found::None => refused(Refusal::MissingParameter(tag)),
         Found::At(place) => {
@@ -238,7 +238,7 @@ impl SuaMessage {
             foundOf r ≡ dataAt (now (values .entry))
             (table (now (tags .entry)) (now (starts .entry)) (now (lengths .entry))) (self .count) ⌝ }
     {
-        parameter::find_parameter(values, tags, starts, lengths, self.count, DATA)
+        parameter::table::find_parameter(values, tags, starts, lengths, self.count, DATA)
     }
 
     // The data; no octets where there are none, or where a record meets 15.
@@ -253,7 +253,7 @@ impl SuaMessage {
             now r ≡ dataPart (now (values .entry))
             (table (now (tags .entry)) (now (starts .entry)) (now (lengths .entry))) (self .count) ⌝ }
     {
-        match parameter::find_parameter(values, tags, starts, lengths, self.count, DATA) {
+        match parameter::table::find_parameter(values, tags, starts, lengths, self.count, DATA) {
             Found::At(place) => {
                 let start = place.start;
                 let end = start + place.length;
@@ -279,7 +279,14 @@ impl SuaMessage {
             (table (now (tags .entry)) (now (starts .entry)) (now (lengths .entry))) (self .count)) (now (out .entry)) ⌝ }
     {
         let count = self.count;
-        match parameter::find_parameter(values, tags, starts, lengths, count, AFFECTED_POINT_CODE) {
+        match parameter::table::find_parameter(
+            values,
+            tags,
+            starts,
+            lengths,
+            count,
+            AFFECTED_POINT_CODE,
+        ) {
             Found::Refused(r) => Counted::Refused(r),
             Found::None => Counted::Count(0),
             Found::At(place) => {

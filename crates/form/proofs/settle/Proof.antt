@@ -14,7 +14,7 @@ use Rattle.message.specs.declared.header.CommonHeader.{CommonHeader}
 use Rattle.message.specs.Message.{readHeader, headerReadOf}
 use Rattle.message.proofs.Listing.{header-within, message-done}
 use Rattle.form.specs.Form.{settled}
-use Rattle.form.specs.steps.Passes.{settledRun}
+use Rattle.form.specs.Steps.Passes.{settledRun}
 use Rattle.form.proofs.Passes.{settled-refused, length-run, run-known}
 use Rattle.form.proofs.Measuring.{run-small}
 use borrow.Author.Needs.{needs}

@@ -8,9 +8,9 @@ use Rattle.bcd.specs.declared.error.Counted.{Counted}
 use Rattle.bcd.specs.Digits.{builtIn}
 use Rattle.bcd.specs.Answers.{countedOf}
 use Rattle.parameter.proofs.Running.{part-of, part-length}
-use Rattle.form.specs.steps.Passes.{sumOf}
+use Rattle.form.specs.Steps.Passes.{sumOf}
 use Rattle.entry.specs.Account.{addressAccount}
-use Rattle.entry.specs.steps.Emitting.{Tried}
+use Rattle.entry.specs.Steps.Emitting.{Tried}
 use Rattle.entry.proofs.Accounting.{further-refused, further-raw, further-address}
 use borrow.Author.Needs.{needs}
 use Rattle.entry.proofs.account.param.Statement.{statement}

@@ -13,7 +13,7 @@ use Rattle.parameter.specs.Answers.{stepOf}
 use Rattle.parameter.proofs.Walking.{step-inv}
 use Rattle.parameter.proofs.Reaching.{reached-out, reached-end, reached-refused}
 use Rattle.entry.specs.Account.{paramAccount}
-use Rattle.entry.specs.steps.Emitting.{accounts}
+use Rattle.entry.specs.Steps.Emitting.{accounts}
 use Rattle.entry.proofs.Accounting.{tried-refused}
 use Rattle.entry.proofs.Going.{Going, going-start, going-more, going-done, going-count}
 use borrow.Author.Needs.{needs}

@@ -4,7 +4,7 @@ use mathlib.Core.Path.{_≡_, subst}
 use native.Mathlib.Omega.{arith}
 use lib.ListN.{take}
 use Rattle.entry.proofs.Emission.{emitted-none, emitted-same, emitted-next}
-use Rattle.entry.specs.steps.Emitting.{Emitted}
+use Rattle.entry.specs.Steps.Emitting.{Emitted}
 use borrow.Author.Needs.{needs}
 use Rattle.entry.proofs.account.put_digits.Statement.{statement}
 use Rattle.entry.proofs.account.put_digits.Tie as tie

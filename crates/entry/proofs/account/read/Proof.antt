@@ -12,7 +12,7 @@ use Rattle.message.specs.declared.header.ClassAndType.{ClassAndType}
 use Rattle.message.specs.Message.{readHeader, headerReadOf}
 use Rattle.message.proofs.Listing.{header-within}
 use Rattle.address.proofs.Planning.{mapped-refused}
-use Rattle.entry.specs.steps.Emitting.{accounts}
+use Rattle.entry.specs.Steps.Emitting.{accounts}
 use Rattle.entry.proofs.AccountDone.{account-unread, headed, headed-length, Known, account-stopped, account-known, account-begun}
 use borrow.Author.Needs.{needs}
 use Rattle.entry.proofs.account.read.Statement.{statement}

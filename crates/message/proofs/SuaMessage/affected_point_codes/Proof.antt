@@ -8,7 +8,7 @@ use lib.ListN.{length}
 use borrow.Author.Needs.{needs}
 use Rattle.bcd.specs.Outcome.{Outcome, accepted, mapped}
 use Rattle.bcd.proofs.Writing.{untouched}
-use Rattle.parameter.specs.declared.Found.{Found}
+use Rattle.parameter.specs.declared.table.Found.{Found}
 use Rattle.parameter.specs.declared.Place.{Place}
 use Rattle.parameter.specs.Table.{Table, table, findParam}
 use Rattle.parameter.specs.Answers.{foundOf}

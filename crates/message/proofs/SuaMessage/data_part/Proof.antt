@@ -4,7 +4,7 @@ use mathlib.Core.Path.{_≡_, sym, ap, _∙_}
 use native.Mathlib.Omega.{arith}
 use lib.ListN.{length}
 use borrow.Author.Needs.{needs}
-use Rattle.parameter.specs.declared.Found.{Found}
+use Rattle.parameter.specs.declared.table.Found.{Found}
 use Rattle.parameter.specs.Table.{Table, table}
 use Rattle.parameter.specs.Answers.{foundOf}
 use Rattle.message.specs.Accessors.{dataAt, shown}

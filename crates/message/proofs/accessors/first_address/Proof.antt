@@ -8,7 +8,7 @@ use lib.ListN.{length}
 use borrow.Author.Needs.{needs}
 use Rattle.bcd.specs.Outcome.{Outcome, Octets}
 use Rattle.bcd.proofs.Outcomes.{octets-of}
-use Rattle.parameter.specs.declared.Found.{Found}
+use Rattle.parameter.specs.declared.table.Found.{Found}
 use Rattle.parameter.specs.declared.Place.{Place}
 use Rattle.parameter.specs.Walk.{valued}
 use Rattle.parameter.specs.Table.{Table, table, findParam}

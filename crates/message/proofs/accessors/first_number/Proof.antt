@@ -5,7 +5,7 @@ use native.Mathlib.Omega.{arith}
 use lib.ListN.{length}
 use borrow.Author.Needs.{needs}
 use Rattle.bcd.specs.Outcome.{accepted}
-use Rattle.parameter.specs.declared.Found.{Found}
+use Rattle.parameter.specs.declared.table.Found.{Found}
 use Rattle.parameter.specs.Parameter.{fourIn}
 use Rattle.parameter.specs.Table.{Table, table, findParam}
 use Rattle.parameter.specs.Answers.{foundOf}

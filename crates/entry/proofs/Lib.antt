@@ -1,3 +1,4 @@
+-- Laws and theorems that belong to no one function.
 pub mod FlatList
 pub mod Summing
 pub mod FlatWriting

@@ -1,3 +1,4 @@
+-- Laws and theorems that belong to no one function.
 pub mod Tags
 pub mod Worked
 pub mod Settling

@@ -54,9 +54,9 @@ fn code_at(value: &[u8], i: usize) -> u32
     ensures { λ r. ⌜ r ≡ getD (codesIn (now (value .entry))) i 0 ⌝ }
 {
     let at = 4 * i;
-    let high = value[at + 1] as u32;
+    let high = be16(value[at], value[at + 1]) as u32;
     let low = be16(value[at + 2], value[at + 3]) as u32;
-    high * 65536 + low
+    high % 256 * 65536 + low
 }
 
 // Stores the codes of a value in a lent table. 13.

@@ -1,1 +1,2 @@
+-- Laws and theorems that belong to no one function.
 pub mod Reports

@@ -15,7 +15,7 @@ use Rattle.bcd.proofs.Outcomes.{accepted-inj}
 use Rattle.address.specs.Address.{Address, addressWith, readAddress}
 use Rattle.address.specs.Listing.{otherPlaces, addressPlaces, addressRecord, recordIn, Listed, listAddress}
 use Rattle.address.specs.Records.{addressOf}
-use Rattle.address.specs.Plan.{Read}
+use Rattle.address.specs.Steps.Plan.{Read}
 use Rattle.address.specs.Standing.{ListsAs}
 use Rattle.address.specs.declared.SuaAddress.{SuaAddress}
 use Rattle.address.specs.declared.parts.Parts.{Parts}

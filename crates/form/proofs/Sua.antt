@@ -11,7 +11,7 @@ use Rattle.bcd.proofs.Outcomes.{accepted-inj, mapped-inv, mapped-mapped, each-c
 use Rattle.parameter.specs.Parameter.{Param, runLength, Fits}
 use Rattle.address.specs.Address.{Address, addressIn, writeAddress, rewriteAddress}
 use Rattle.address.proofs.Rewriting.{rewritten}
-use Rattle.message.specs.declared.header.MessageType.{MessageType}
+use Rattle.message.specs.declared.types.MessageType.{MessageType}
 use Rattle.message.specs.Message.{messageOctets}
 use Rattle.message.proofs.Framing.{Framed, readOf, octetsOf}
 use Rattle.message.proofs.Messages.{suaKinds, sua-paired, messageOf, message-framed, octets-framed}

@@ -10,7 +10,7 @@ use Rattle.bcd.specs.Digits.{builtIn, halves, pack, digitsIn, readDigits, write
 use Rattle.parameter.specs.Parameter.{paramOctets, runOctets, encodeParam, twoAt, four}
 use Rattle.parameter.specs.Walk.{headed, stepAt, steps, places, parameters}
 use Rattle.address.specs.Address.{Address, titleIn, writeTitle, pieceIn, addressWith, addressIn, readAddress, indicator, pieces, subParam, writeAddress, rewriteAddress}
-use Rattle.message.specs.declared.header.MessageType.the-variants as T
+use Rattle.message.specs.declared.types.MessageType.the-variants as T
 use Rattle.message.specs.Types.{fromClassType}
 use Rattle.message.specs.Message.{Message, readHeader, readMessage, messageOctets}
 use Rattle.form.specs.Form.{settledParam, settled}

@@ -1,11 +1,12 @@
 // Messages, read and written (message.rs; RFC 3868, 3.1).
 pub mod header;
+pub mod types;
 
 use bcd::error::Counted;
 use bcd::error::Refusal;
 use header::CommonHeader;
 use header::HeaderRead;
-use header::MessageType;
+use types::MessageType;
 ghost use mathlib.Core.Path.{_≡_};
 ghost use Prim.Native.Nat.{_≤_};
 ghost use lib.ListN.{length};

@@ -13,7 +13,7 @@ use Rattle.parameter.specs.declared.Place.{Place}
 use Rattle.parameter.specs.Parameter.{twoAt}
 use Rattle.parameter.specs.Walk.{Walked, ended, found, onward, valued}
 use Rattle.parameter.proofs.Reaching.{nothing-done, one-more}
-use Rattle.message.specs.declared.header.MessageType.{MessageType}
+use Rattle.message.specs.declared.types.MessageType.{MessageType}
 use Rattle.message.specs.Types.{fromClassType}
 use Rattle.message.specs.Message.{writeMessage}
 use Rattle.entry.specs.Flat.{fourAt, flatStep, flatSteps, flatList, encodeFlat}

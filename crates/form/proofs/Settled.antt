@@ -12,7 +12,7 @@ use Rattle.bcd.proofs.Outcomes.{never, after-inv, mapped-inv}
 use Rattle.parameter.specs.Parameter.{Param, roundUp, runLength, fourIn}
 use Rattle.parameter.proofs.RoundTrip.{all-sized}
 use Rattle.address.specs.Address.{Address, addressIn, writeAddress, rewriteAddress}
-use Rattle.message.specs.declared.header.MessageType.{MessageType}
+use Rattle.message.specs.declared.types.MessageType.{MessageType}
 use Rattle.message.specs.Message.{Message, readMessage, messageOctets, writeMessage}
 use Rattle.message.proofs.Messages.{messageOf, message-framed, octets-framed, message-written}
 use Rattle.form.specs.Form.{isAddress, settledParam, settled, Part, Meaning, meaning}

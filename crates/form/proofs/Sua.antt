@@ -12,7 +12,7 @@ use Rattle.parameter.specs.Parameter.{Param, runLength, Fits}
 use Rattle.parameter.proofs.RoundTrip.{all-sized}
 use Rattle.address.specs.Address.{Address, addressIn, writeAddress, rewriteAddress}
 use Rattle.address.proofs.Rewriting.{rewritten}
-use Rattle.message.specs.declared.header.MessageType.{MessageType}
+use Rattle.message.specs.declared.types.MessageType.{MessageType}
 use Rattle.message.specs.Message.{Message, readMessage, messageOctets, writeMessage}
 use Rattle.message.proofs.Framing.{Framed, readOf, octetsOf}
 use Rattle.message.proofs.Messages.{suaKinds, sua-paired, messageOf, message-framed, octets-framed, message-written}

@@ -8,7 +8,7 @@ use Rattle.bcd.specs.Outcome.{Outcome, accepted, pick, after, mapped, each}
 use Rattle.bcd.specs.Digits.{Alphabet}
 use Rattle.parameter.specs.Parameter.{Param, param}
 use Rattle.address.specs.Address.{Address, addressIn, rewriteAddress}
-use Rattle.message.specs.declared.header.MessageType.{MessageType}
+use Rattle.message.specs.declared.types.MessageType.{MessageType}
 use Rattle.message.specs.Message.{message, readMessage, writeMessage}
 
 -- The tags of the source address and of the destination address (RFC 3868, 3.10.2 and 3.10.3).

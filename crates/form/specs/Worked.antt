@@ -9,7 +9,7 @@ use Rattle.bcd.specs.Outcome.{Outcome, accepted, refused}
 use Rattle.bcd.specs.Digits.{builtIn, readDigits, writeDigits}
 use Rattle.parameter.specs.Parameter.{four}
 use Rattle.address.specs.Address.{Address, readAddress}
-use Rattle.message.specs.declared.header.MessageType.the-variants as T
+use Rattle.message.specs.declared.types.MessageType.the-variants as T
 use Rattle.message.specs.Message.{Message, readMessage}
 use Rattle.form.specs.Form.{settled}
 

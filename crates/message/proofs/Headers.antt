@@ -10,7 +10,7 @@ use Rattle.bcd.specs.Outcome.{refused, accepted, mapped, most, deliver}
 use Rattle.bcd.proofs.Outcomes.{bounded-within, bounded-beyond}
 use Rattle.bcd.proofs.Writing.{Begun, untouched, store, delivered}
 use Rattle.parameter.specs.Parameter.{twoAt, fourIn}
-use Rattle.message.specs.declared.header.ClassAndType.{ClassAndType}
+use Rattle.message.specs.declared.types.ClassAndType.{ClassAndType}
 use Rattle.message.specs.declared.header.CommonHeader.{CommonHeader}
 use Rattle.message.specs.Types.{classAndType, fromClassType}
 use Rattle.message.specs.Message.{headerWith, readHeader, writeHeader}

@@ -13,7 +13,7 @@ use Rattle.parameter.specs.Parameter.{Param, fourIn}
 use Rattle.parameter.specs.Walk.{parameters}
 use Rattle.parameter.specs.Padding.{Holds}
 use Rattle.parameter.proofs.Padding as Run
-use Rattle.message.specs.declared.header.MessageType.{MessageType}
+use Rattle.message.specs.declared.types.MessageType.{MessageType}
 use Rattle.message.specs.Types.{fromClassType}
 use Rattle.message.specs.Message.{headerWith, readHeader, message, readMessage}
 

@@ -1,6 +1,6 @@
 -- Laws and theorems that belong to no one function.
 pub mod Ignored
-pub mod Types
+pub mod Pairs
 pub mod Headers
 pub mod Framing
 pub mod Messages

@@ -14,7 +14,7 @@ use Rattle.parameter.specs.Parameter.{Param, runOctets, encodeParam, writable}
 use Rattle.parameter.specs.Walk.{places}
 use Rattle.parameter.specs.Table.{Table, Tabulated, tabulate}
 use Rattle.parameter.proofs.RoundTrip.{encode-inv}
-use Rattle.message.specs.declared.header.MessageType.{MessageType}
+use Rattle.message.specs.declared.types.MessageType.{MessageType}
 use Rattle.message.specs.declared.header.CommonHeader.{CommonHeader}
 use Rattle.message.specs.Message.{headerWith, headerOctets, readHeader, writeHeader, messagePlaces, messageOctets, writeMessage}
 use Rattle.message.specs.Listing.{listMessage}

@@ -13,11 +13,11 @@ use Rattle.parameter.specs.Parameter.{Param, runLength, encodeParam, Sized, Fit
 use Rattle.parameter.specs.Walk.{places, valued, parameters}
 use Rattle.parameter.proofs.Structure.{places-parameters}
 use Rattle.parameter.proofs.RoundTrip.{encode-accepts, encode-inv}
-use Rattle.message.specs.declared.header.MessageType.{MessageType}
+use Rattle.message.specs.declared.types.MessageType.{MessageType}
 use Rattle.message.specs.declared.header.CommonHeader.{CommonHeader}
 use Rattle.message.specs.Types.{classOf, typeOf, fromClassType}
 use Rattle.message.specs.Message.{headerWith, readHeader, Message, readMessage, messagePlaces, messageOctets, writeMessage}
-use Rattle.message.proofs.Types.{pair-of-type, type-of-pair, class-octet, type-octet}
+use Rattle.message.proofs.Pairs.{pair-of-type, type-of-pair, class-octet, type-octet}
 use Rattle.message.proofs.Framing.{Kinds, Paired, Framed, readOf, octetsOf, octets-length, octets-declared, octets-octets, octets-read, read-inv}
 
 -- SUA's message types.

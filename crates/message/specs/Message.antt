@@ -8,7 +8,7 @@ use Rattle.bcd.specs.Answers.{refusalOf}
 use Rattle.parameter.specs.declared.Place.{Place}
 use Rattle.parameter.specs.Parameter.{Param, runOctets, encodeParam, writable, four, fourIn}
 use Rattle.parameter.specs.Walk.{places, parameters}
-use Rattle.message.specs.declared.header.MessageType.{MessageType}
+use Rattle.message.specs.declared.types.MessageType.{MessageType}
 use Rattle.message.specs.declared.header.CommonHeader.{CommonHeader}
 use Rattle.message.specs.declared.header.HeaderRead.{HeaderRead}
 use Rattle.message.specs.declared.header.HeaderRead.the-variants as HR

@@ -5,15 +5,15 @@ use mathlib.Core.List.{List, [], _∷_}
 use lib.Dec.{eqb}
 use Rattle.bcd.specs.Outcome.{Outcome, accepted, refused, pick}
 use Rattle.bcd.specs.Answers.{refusalOf}
-use Rattle.message.specs.declared.header.MessageClass.{MessageClass}
-use Rattle.message.specs.declared.header.MessageClass.the-variants as C
-use Rattle.message.specs.declared.header.MessageType.{MessageType}
-use Rattle.message.specs.declared.header.MessageType.the-variants as T
-use Rattle.message.specs.declared.header.ClassAndType.{ClassAndType}
-use Rattle.message.specs.declared.header.ClassRead.{ClassRead}
-use Rattle.message.specs.declared.header.ClassRead.the-variants as CR
-use Rattle.message.specs.declared.header.TypeRead.{TypeRead}
-use Rattle.message.specs.declared.header.TypeRead.the-variants as TR
+use Rattle.message.specs.declared.types.MessageClass.{MessageClass}
+use Rattle.message.specs.declared.types.MessageClass.the-variants as C
+use Rattle.message.specs.declared.types.MessageType.{MessageType}
+use Rattle.message.specs.declared.types.MessageType.the-variants as T
+use Rattle.message.specs.declared.types.ClassAndType.{ClassAndType}
+use Rattle.message.specs.declared.types.ClassRead.{ClassRead}
+use Rattle.message.specs.declared.types.ClassRead.the-variants as CR
+use Rattle.message.specs.declared.types.TypeRead.{TypeRead}
+use Rattle.message.specs.declared.types.TypeRead.the-variants as TR
 
 -- The first of a list that passes a test, else another outcome.
 abbrev pub first : {A : Type 0} → (A → Bool) → List A → Outcome A → Outcome A

@@ -2,12 +2,13 @@
 pub mod accessors;
 pub mod header;
 pub mod point_codes;
+pub mod types;
 
 use bcd::error::Counted;
 use bcd::error::Refusal;
 use header::CommonHeader;
 use header::HeaderRead;
-use header::MessageType;
+use types::MessageType;
 ghost use mathlib.Core.Path.{_≡_};
 ghost use Prim.Native.Nat.{_≤_};
 ghost use lib.ListN.{length};

@@ -8,7 +8,7 @@ use Rattle.bcd.specs.Outcome.{accepted, refused, deliver}
 use Rattle.bcd.specs.Answers.{countedOf}
 use Rattle.bcd.proofs.Outcomes.{deliver-refused, deliver-short}
 use Rattle.bcd.proofs.Writing.{Begun, delivered}
-use Rattle.message.specs.declared.header.ClassAndType.{ClassAndType}
+use Rattle.message.specs.declared.types.ClassAndType.{ClassAndType}
 use Rattle.message.specs.Message.{readHeader, headerReadOf}
 use Rattle.message.proofs.Listing.{header-within}
 use Rattle.address.proofs.Planning.{mapped-refused}

@@ -1,9 +1,9 @@
--- `message::header::MessageClass::from_u8` meets its contract.
+-- `message::types::MessageClass::from_u8` meets its contract.
 use mathlib.Core.Path.{sym, ap}
 use Rattle.message.specs.Types.{fromOctet}
-use Rattle.message.proofs.Types.{other-octet}
-use Rattle.message.proofs.header.MessageClass.from_u8.Statement.{statement}
-use Rattle.message.proofs.header.MessageClass.from_u8.Tie as tie
+use Rattle.message.proofs.Pairs.{other-octet}
+use Rattle.message.proofs.types.MessageClass.from_u8.Statement.{statement}
+use Rattle.message.proofs.types.MessageClass.from_u8.Tie as tie
 
 returns : tie.Need-returns
 unfolding fromOctet

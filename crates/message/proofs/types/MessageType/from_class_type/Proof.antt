@@ -1,10 +1,10 @@
--- `message::header::MessageType::from_class_type` meets its contract: class by class.
+-- `message::types::MessageType::from_class_type` meets its contract: class by class.
 use mathlib.Core.Path.{sym, ap, _∙_}
 use borrow.Author.Needs.{needs}
 use Rattle.message.specs.Types.{fromClassType}
-use Rattle.message.proofs.Types.{other-class}
-use Rattle.message.proofs.header.MessageType.from_class_type.Statement.{statement}
-use Rattle.message.proofs.header.MessageType.from_class_type.Tie as tie
+use Rattle.message.proofs.Pairs.{other-class}
+use Rattle.message.proofs.types.MessageType.from_class_type.Statement.{statement}
+use Rattle.message.proofs.types.MessageType.from_class_type.Tie as tie
 
 management-requires : tie.Need-management-requires
 management-requires c κs = search needs

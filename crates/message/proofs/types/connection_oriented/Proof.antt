@@ -1,13 +1,13 @@
--- `message::header::connection_oriented` meets its contract: each arm's type has that pair, and no other type of the class has.
+-- `message::types::connection_oriented` meets its contract: each arm's type has that pair, and no other type of the class has.
 use mathlib.Core.Path.{refl, sym, _∙_}
 use mathlib.Core.Logic.{⊎-elim}
 use mathlib.Core.List.{[], _∷_}
 use borrow.Author.Needs.{needs}
 use Rattle.message.specs.Types.{fromClassType}
-use Rattle.message.specs.declared.header.MessageType.the-variants as T
-use Rattle.message.proofs.Types.{reads-as, other-type}
-use Rattle.message.proofs.header.connection_oriented.Statement.{statement}
-use Rattle.message.proofs.header.connection_oriented.Tie as tie
+use Rattle.message.specs.declared.types.MessageType.the-variants as T
+use Rattle.message.proofs.Pairs.{reads-as, other-type}
+use Rattle.message.proofs.types.connection_oriented.Statement.{statement}
+use Rattle.message.proofs.types.connection_oriented.Tie as tie
 
 unknown-requires : tie.Need-unknown-requires
 unknown-requires c κs = search needs

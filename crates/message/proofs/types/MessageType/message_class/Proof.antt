@@ -1,10 +1,10 @@
--- `message::header::MessageType::message_class` meets its contract: the class of a type is never refused.
+-- `message::types::MessageType::message_class` meets its contract: the class of a type is never refused.
 use mathlib.Core.Path.{sym, ap, _∙_}
 use Rattle.message.specs.Types.{fromOctet, classReadOf}
-use Rattle.message.proofs.Types.{class-known}
+use Rattle.message.proofs.Pairs.{class-known}
 use borrow.Author.Needs.{needs}
-use Rattle.message.proofs.header.MessageType.message_class.Statement.{statement}
-use Rattle.message.proofs.header.MessageType.message_class.Tie as tie
+use Rattle.message.proofs.types.MessageType.message_class.Statement.{statement}
+use Rattle.message.proofs.types.MessageType.message_class.Tie as tie
 
 class-and-type-requires : tie.Need-class-and-type-requires
 class-and-type-requires c κs = search needs

@@ -1,9 +1,9 @@
--- `message::header::MessageType::class_and_type` meets its contract.
+-- `message::types::MessageType::class_and_type` meets its contract.
 use mathlib.Core.Path.{sym, ap}
 use borrow.Author.Needs.{needs}
 use Rattle.message.specs.Types.{classAndType}
-use Rattle.message.proofs.header.MessageType.class_and_type.Statement.{statement}
-use Rattle.message.proofs.header.MessageType.class_and_type.Tie as tie
+use Rattle.message.proofs.types.MessageType.class_and_type.Statement.{statement}
+use Rattle.message.proofs.types.MessageType.class_and_type.Tie as tie
 
 enum-told : tie.Need-enum-told
 enum-told c = search needs

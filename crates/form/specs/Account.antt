@@ -1,5 +1,5 @@
 -- A flat account of a message with its addresses, fit to be compared field by field with another decoder's.
-use Prim.Native.Nat.{ℕ, _+_}
+use Prim.Native.Nat.{ℕ}
 use mathlib.Core.Option.{Option, none, some}
 use mathlib.Core.List.{List, [], _∷_, _++_, map}
 use lib.ListN.{length}
@@ -11,6 +11,7 @@ use Rattle.parameter.specs.Walk.{places, valued}
 use Rattle.address.specs.Address.{Title, Address, indicator, addressIn}
 use Rattle.address.specs.Listing.{otherPlaces}
 use Rattle.message.specs.Types.{classOf, typeOf}
+pub use Rattle.message.specs.Accessors.{moved}
 use Rattle.message.specs.Message.{readHeader}
 use Rattle.form.specs.Form.{isAddress}
 
@@ -41,10 +42,6 @@ addressFields a others =
     ++ (marked (λ (n : ℕ). n ∷ []) (a .sub)
     ++ (four (length others)
     ++ placesOctets others)))))
-
--- A place of an address value, counted from the first octet of the message in which the value starts at a position.
-abbrev pub moved : (base : ℕ) → Place → Place
-moved base p = record { tag = p .tag; start = base + p .start; length = p .length }
 
 -- An address value that starts at a position of the message, with the refusals of its reading.
 unfoldable pub addressAccount : Alphabet → (base : ℕ) → List ℕ → Outcome (List ℕ)

@@ -6,3 +6,4 @@ pub mod Listing
 pub mod PointCodes
 pub mod Accessing
 pub mod Addresses
+pub mod AddressBack

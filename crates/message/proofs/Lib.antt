@@ -7,3 +7,4 @@ pub mod PointCodes
 pub mod Accessing
 pub mod Addresses
 pub mod AddressBack
+pub mod Accessed

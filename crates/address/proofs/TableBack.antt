@@ -76,17 +76,17 @@ others-all P (p ∷ ps) h = go (isOther (p .tag)) (others-all P ps (h .1))
     go false r = r
 
 -- What an address that was listed tells.
-record IsListed (v : List ℕ) (t : Table) (r : SuaAddress) (held : Table) : Type 0 where
-  address : Address
-  read : readAddress builtIn v ≡ accepted address
-  recorded : r ≡ addressRecord address
-  count : ℕ
-  stored : record { answer = accepted count; table = held } ≡ tabulate (addressPlaces v) t
+pub record IsListed (v : List ℕ) (t : Table) (r : SuaAddress) (held : Table) : Type 0 where
+  pub address : Address
+  pub read : readAddress builtIn v ≡ accepted address
+  pub recorded : r ≡ addressRecord address
+  pub count : ℕ
+  pub stored : record { answer = accepted count; table = held } ≡ tabulate (addressPlaces v) t
 
 tabulated : (s : Tabulated) (n : ℕ) (held : Table) → s .answer ≡ accepted n → held ≡ s .table → record { answer = accepted n; table = held } ≡ s
 tabulated s n held e h = rw (h, ← e)
 
-list-inv : (v : List ℕ) (t held : Table) (r : SuaAddress) → record { answer = accepted tt; address = r; table = held } ≡ listAddress v t → IsListed v t r held
+pub list-inv : (v : List ℕ) (t held : Table) (r : SuaAddress) → record { answer = accepted tt; address = r; table = held } ≡ listAddress v t → IsListed v t r held
 unfolding listAddress
 list-inv v t held r e =
     let s : Tabulated = tabulate (addressPlaces v) t in
@@ -101,15 +101,15 @@ list-inv v t held r e =
       stored = tabulated s n held hn (ap (λ (l : Listed). l .table) e);
     }
 
-module _ {v : List ℕ} {s : Parts} (y : Read v s) (t held : Table) (n : ℕ)
-    (stored : record { answer = accepted n; table = held } ≡ tabulate (addressPlaces v) t) where
+-- An address that was read, written from its record and the records of its others over any values.
+module _ {v : List ℕ} {s : Parts} (y : Read v s) where
   abbrev a : Address
   a = address (y .known)
 
   abbrev ps : List Place
   ps = y .known .places
 
-  others : a .others ≡ map (valued v) (otherPlaces ps)
+  pub others : a .others ≡ map (valued v) (otherPlaces ps)
   unfolding addressWith
   others = others-hold builtIn v ps
 
@@ -121,17 +121,32 @@ module _ {v : List ℕ} {s : Parts} (y : Read v s) (t held : Table) (n : ℕ)
   unfolding addressWith
   routing = y .known .routing
 
-  from-table : records v held (length (a .others)) ≡ accepted (a .others)
-  from-table =
-      let inside = others-all (Inside v) ps (places-inside v 4 ps (y .known .walked)) in
-      let k = stored-records v (otherPlaces ps) t held n inside (stored ∙ ap (λ (o : Outcome (List Place)). tabulate o t) (places-known y)) in
-      ap (records v held) (ap length others ∙ length-map (otherPlaces ps) (valued v)) ∙ k .params ∙ ap accepted (sym others)
+  pub others-inside : All (Inside v) (otherPlaces ps)
+  others-inside = others-all (Inside v) ps (places-inside v 4 ps (y .known .walked))
 
-  listed-written : encodeAddress (addressRecord a) v held ≡ writeAddress builtIn 0 a
+  pub record-written :
+      (values : List ℕ) (held : Table)
+      → records values held (length (otherPlaces ps)) ≡ accepted (map (valued v) (otherPlaces ps))
+      → encodeAddress (addressRecord a) values held ≡ writeAddress builtIn 0 a
   unfolding encodeAddress
-  listed-written =
+  record-written values held e =
+      let from-table : records values held (length (a .others)) ≡ accepted (a .others) =
+      ap (records values held) (ap length others ∙ length-map (otherPlaces ps) (valued v)) ∙ e ∙ ap accepted (sym others) in
       ap (λ (o : Outcome (List Param)). after o (λ os. after (addressGiven (addressRecord a) os) (writeAddress builtIn 0))) from-table
       ∙ ap (λ (o : Outcome Address). after o (writeAddress builtIn 0)) (given-read a routing few)
+
+  -- as it is read and written again
+  pub written-again :
+      (values : List ℕ) (held : Table) (r : SuaAddress) (x : Address)
+      → readAddress builtIn v ≡ accepted x
+      → r ≡ addressRecord x
+      → records values held (length (otherPlaces ps)) ≡ accepted (map (valued v) (otherPlaces ps))
+      → encodeAddress r values held ≡ after (readAddress builtIn v) (writeAddress builtIn 0)
+  written-again values held r x read recorded e =
+      let same : x ≡ a = accepted-inj (sym read ∙ read-whole y) in
+      ap (λ (r : SuaAddress). encodeAddress r values held) (recorded ∙ ap addressRecord same)
+      ∙ record-written values held e
+      ∙ sym (ap (λ (o : Outcome Address). after o (writeAddress builtIn 0)) (read-whole y))
 
 pub written-from-table :
     (v : List ℕ) (t held : Table) (r : SuaAddress)
@@ -141,7 +156,6 @@ pub written-from-table :
 written-from-table v t held r o e =
     let l = list-inv v t held r e in
     let (s, y) = accepted-read o (l .read) in
-    let same : l .address ≡ address (y .known) = accepted-inj (sym (l .read) ∙ read-whole y) in
-    ap (λ (r : SuaAddress). encodeAddress r v held) (l .recorded ∙ ap addressRecord same)
-    ∙ listed-written y t held (l .count) (l .stored)
-    ∙ sym (ap (λ (o : Outcome Address). after o (writeAddress builtIn 0)) (read-whole y))
+    let stored = l .stored ∙ ap (λ (o : Outcome (List Place)). tabulate o t) (places-known y) in
+    written-again y v held r (l .address) (l .read) (l .recorded)
+    (stored-records v (otherPlaces (y .known .places)) t held (l .count) (others-inside y) stored .params)

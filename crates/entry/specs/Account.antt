@@ -1,5 +1,5 @@
 -- A flat account of a message with its addresses, fit to be compared field by field with another decoder's.
-use Prim.Native.Nat.{ℕ, _+_}
+use Prim.Native.Nat.{ℕ}
 use mathlib.Core.Option.{Option, none, some}
 use mathlib.Core.List.{List, [], _∷_, _++_, map}
 use lib.ListN.{length}
@@ -11,6 +11,7 @@ use Rattle.parameter.specs.Walk.{places, valued}
 use Rattle.address.specs.Address.{Title, Address, indicator, addressIn}
 use Rattle.address.specs.Listing.{otherPlaces}
 use Rattle.message.specs.Types.{classOf, typeOf}
+pub use Rattle.message.specs.Accessors.{moved}
 use Rattle.message.specs.Message.{readHeader}
 use Rattle.message.specs.Accessors.{moved}
 use Rattle.form.specs.Form.{isAddress}

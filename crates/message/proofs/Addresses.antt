@@ -70,17 +70,17 @@ module _ {out d : List ℕ} (base count i : ℕ) (b : Begun out (take i (movedSt
       (store-next (movedStarts base count out) i b (omega (arith, moved-long)) (omega arith))
 
 -- The table with places stored in front.
-abbrev tableOf : List Place → Table → Table
+abbrev pub tableOf : List Place → Table → Table
 tableOf ps t = table (over (map tagOf ps) (t .tags)) (over (map startOf ps) (t .starts)) (over (map lengthOf ps) (t .lengths))
 
 same-table : {ts ts₁ ss ss₁ ls ls₁ : List ℕ} → ts ≡ ts₁ → ss ≡ ss₁ → ls ≡ ls₁ → table ts ss ls ≡ table ts₁ ss₁ ls₁
 same-table a b c = rw (a, b, c)
 
-tabulate-fits : (ps : List Place) (t : Table) → length ps ≤ room t → tabulate (accepted ps) t ≡ tabulated (accepted (length ps)) (tableOf ps t)
+pub tabulate-fits : (ps : List Place) (t : Table) → length ps ≤ room t → tabulate (accepted ps) t ≡ tabulated (accepted (length ps)) (tableOf ps t)
 unfolding tabulate
 tabulate-fits ps t h = rw (le-leb (length ps) (room t) h)
 
-tabulate-small : (ps : List Place) (t : Table) → room t < length ps → tabulate (accepted ps) t ≡ tabulated (refused 13 (length ps ∷ [])) t
+pub tabulate-small : (ps : List Place) (t : Table) → room t < length ps → tabulate (accepted ps) t ≡ tabulated (refused 13 (length ps ∷ [])) t
 unfolding tabulate
 tabulate-small ps t h = rw (lt-leb (length ps) (room t) h)
 

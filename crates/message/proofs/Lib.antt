@@ -9,3 +9,5 @@ pub mod Standing
 pub mod PointCodes
 pub mod Accessing
 pub mod Addresses
+pub mod AddressBack
+pub mod Accessed

@@ -13,16 +13,12 @@ use Rattle.bcd.specs.Outcome.{accepted, refused, most, delivered}
 use Rattle.bcd.proofs.Outcomes.{accepted-inj, demand-inv, bounded-within, bounded-beyond, deliver-refused}
 use Rattle.bcd.proofs.Writing.{Begun, extend}
 use Rattle.bcd.proofs.Writing.{delivered as begun-delivered}
-use Rattle.message.specs.PointCodes.{codeOctets, codesOctets, mostCodes, packCodes, codesIn, unpackCodes, storeCodes}
+use Rattle.message.specs.PointCodes.{low24, codeOctets, codesOctets, mostCodes, packCodes, codesIn, unpackCodes, storeCodes}
 
 -- S14 of document 01: the high octet of a code is not written.
 worked : codesOctets (0x012345 ∷ 0xFF012345 ∷ []) ≡ 0x00 ∷ 0x01 ∷ 0x23 ∷ 0x45 ∷ 0x00 ∷ 0x01 ∷ 0x23 ∷ 0x45 ∷ []
 unfolding codesOctets
 worked = refl
-
--- The low 24 bits of a code.
-abbrev pub low24 : ℕ → ℕ
-low24 code = code % 16777216
 
 group-back : (n : ℕ) → n / 65536 % 256 * 65536 + n / 256 % 256 * 256 + n % 256 ≡ low24 n
 group-back n = omega arith

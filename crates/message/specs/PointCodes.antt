@@ -5,6 +5,10 @@ use lib.ListN.{length}
 use lib.Dec.{leb}
 use Rattle.bcd.specs.Outcome.{Outcome, accepted, after, demand, bounded, Delivered, deliver}
 
+-- The low 24 bits of a code: what is written of it.
+abbrev pub low24 : ℕ → ℕ
+low24 code = code % 16777216
+
 -- A code as four octets: a mask of 0, then its low 24 bits, the high octet first.
 abbrev pub codeOctets : ℕ → List ℕ
 codeOctets code = 0 ∷ code / 65536 % 256 ∷ code / 256 % 256 ∷ code % 256 ∷ []

@@ -11,7 +11,6 @@ use Rattle.parameter.specs.Walk.{places, valued}
 use Rattle.address.specs.Address.{Title, Address, indicator, addressIn}
 use Rattle.address.specs.Listing.{otherPlaces}
 use Rattle.message.specs.Types.{classOf, typeOf}
-pub use Rattle.message.specs.Accessors.{moved}
 use Rattle.message.specs.Message.{readHeader}
 use Rattle.message.specs.Accessors.{moved}
 use Rattle.form.specs.Form.{isAddress}

@@ -21,7 +21,7 @@ use Rattle.address.specs.Address.{Title, titleAt, Address, addressWith, 
 use Rattle.address.specs.Records.{titleOf, titleGiven, flagged, addressOf, addressGiven}
 use Rattle.address.specs.Titles.{recordOf, noTitle}
 use Rattle.address.specs.Listing.{isOther, otherPlaces, addressPlaces, isThere, addressRecord, recordIn, Listed, listAddress}
-use Rattle.address.specs.Given.{encodeAddress}
+use Rattle.address.specs.Given.{encodeAddressAs, encodeAddress}
 use Rattle.address.specs.Parts.{nothing, noteAll, keptTitle}
 use Rattle.address.specs.Plan.{Read}
 use Rattle.address.specs.declared.SuaAddress.{SuaAddress}
@@ -127,7 +127,7 @@ module _ {v : List ℕ} {s : Parts} (y : Read v s) (t held : Table) (n : ℕ)
       ap (records v held) (ap length others ∙ length-map (otherPlaces ps) (valued v)) ∙ k .params ∙ ap accepted (sym others)
 
   listed-written : encodeAddress (addressRecord a) v held ≡ writeAddress builtIn 0 a
-  unfolding encodeAddress
+  unfolding encodeAddressAs
   listed-written =
       ap (λ (o : Outcome (List Param)). after o (λ os. after (addressGiven (addressRecord a) os) (writeAddress builtIn 0))) from-table
       ∙ ap (λ (o : Outcome Address). after o (writeAddress builtIn 0)) (given-read a routing few)

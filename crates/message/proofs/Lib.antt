@@ -4,4 +4,6 @@ pub mod Framing
 pub mod Messages
 pub mod Listing
 pub mod PointCodes
+pub mod Placing
+pub mod Constructing
 pub mod Accessing

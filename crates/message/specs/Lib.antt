@@ -3,3 +3,5 @@ pub mod Message
 pub mod Listing
 pub mod PointCodes
 pub mod Accessors
+pub mod Constructors
+pub mod ConstructorParts

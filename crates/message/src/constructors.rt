@@ -1,0 +1,411 @@
+// Messages made from their parts (message.rs; RFC 3868, 3.2 to 3.7). A part that may be absent is a flag and a value. Refused:
+// the source's, the destination's, further 10 in order, 14; no message is long enough for 12.
+use crate::SuaMessage;
+use crate::header::CommonHeader;
+use crate::header::MessageType;
+use crate::parts::Part;
+use crate::parts::run_length;
+use crate::parts::write_run;
+use bcd::error::Counted;
+use bcd::error::Refusal;
+use parameter::tags;
+ghost use mathlib.Core.Path.{_≡_};
+ghost use Rattle.bcd.specs.Outcome.{delivered, deliver};
+ghost use Rattle.bcd.specs.Answers.{countedOf};
+ghost use Rattle.message.specs.declared.header.MessageType.the-variants as M;
+ghost use Rattle.message.specs.Constructors.{written, aspUp, infoOnly, trafficAndRc, rcOnly, heartbeatLike};
+ghost use Rattle.message.specs.Constructors.{errorMessage, notify, snm};
+ghost use Rattle.message.specs.ConstructorParts.{runParams};
+
+// The SS7 hop counter that a CLDT starts with (RFC 3868, 3.10.1).
+pub const DEFAULT_HOP_COUNTER: u8 = 15;
+
+// Writes a message of three parts.
+fn plain(
+    message_type: MessageType,
+    first: Part,
+    second: Part,
+    third: Part,
+    data: &[u8],
+    codes: &[u32],
+    out: &mut [u8],
+) -> Counted
+    ensures { λ r. ⌜
+        delivered (countedOf r) (now (out .exit))
+        ≡ deliver (written «message_type» (runParams first second third (now («data» .entry)) (now (codes .entry))))
+        (now (out .entry)) ⌝ }
+{
+    match run_length(first, second, third, data, codes) {
+        Counted::Refused(r) => Counted::Refused(r),
+        Counted::Count(run) => {
+            let total = 8 + run;
+            if out.len() < total {
+                return Counted::Refused(Refusal::OutputTooSmall(total));
+            }
+            CommonHeader::new(message_type, total as u32).encode(out);
+            write_run(first, second, third, data, codes, &mut out[8..]);
+            Counted::Count(total)
+        }
+    }
+}
+
+// Writes a message with an info string, if given.
+fn info_only(message_type: MessageType, has_info: bool, info: &[u8], out: &mut [u8]) -> Counted
+    ensures { λ r. ⌜
+        delivered (countedOf r) (now (out .exit))
+        ≡ deliver (infoOnly «message_type» «has_info» (now (info .entry))) (now (out .entry)) ⌝ }
+{
+    plain(
+        message_type,
+        Part::Absent,
+        Part::Absent,
+        Part::Octets(has_info, tags::INFO_STRING),
+        info,
+        &[],
+        out,
+    )
+}
+
+// Writes a message with a traffic mode type and a routing context, each if given.
+fn traffic_and_rc(
+    message_type: MessageType,
+    has_traffic_mode: bool,
+    traffic_mode: u32,
+    has_routing_context: bool,
+    routing_context: u32,
+    out: &mut [u8],
+) -> Counted
+    ensures { λ r. ⌜
+        delivered (countedOf r) (now (out .exit))
+        ≡ deliver (trafficAndRc «message_type» «has_traffic_mode» «traffic_mode» «has_routing_context» «routing_context»)
+        (now (out .entry)) ⌝ }
+{
+    plain(
+        message_type,
+        Part::Absent,
+        Part::Number(has_traffic_mode, tags::TRAFFIC_MODE_TYPE, traffic_mode),
+        Part::Number(has_routing_context, tags::ROUTING_CONTEXT, routing_context),
+        &[],
+        &[],
+        out,
+    )
+}
+
+// Writes a message with a routing context, if given.
+fn rc_only(
+    message_type: MessageType,
+    has_routing_context: bool,
+    routing_context: u32,
+    out: &mut [u8],
+) -> Counted
+    ensures { λ r. ⌜
+        delivered (countedOf r) (now (out .exit))
+        ≡ deliver (rcOnly «message_type» «has_routing_context» «routing_context») (now (out .entry)) ⌝ }
+{
+    plain(
+        message_type,
+        Part::Absent,
+        Part::Absent,
+        Part::Number(has_routing_context, tags::ROUTING_CONTEXT, routing_context),
+        &[],
+        &[],
+        out,
+    )
+}
+
+// Writes a message with heartbeat data, if given.
+fn heartbeat_like(message_type: MessageType, has_data: bool, data: &[u8], out: &mut [u8]) -> Counted
+    ensures { λ r. ⌜
+        delivered (countedOf r) (now (out .exit))
+        ≡ deliver (heartbeatLike «message_type» «has_data» (now («data» .entry))) (now (out .entry)) ⌝ }
+{
+    plain(
+        message_type,
+        Part::Absent,
+        Part::Absent,
+        Part::Octets(has_data, tags::HEARTBEAT_DATA),
+        data,
+        &[],
+        out,
+    )
+}
+
+// Writes a message with a routing context, if given, and point codes.
+fn snm(
+    message_type: MessageType,
+    has_routing_context: bool,
+    routing_context: u32,
+    affected_pcs: &[u32],
+    out: &mut [u8],
+) -> Counted
+    ensures { λ r. ⌜
+        delivered (countedOf r) (now (out .exit))
+        ≡ deliver (snm «message_type» «has_routing_context» «routing_context» (now («affected_pcs» .entry))) (now (out .entry)) ⌝ }
+{
+    plain(
+        message_type,
+        Part::Absent,
+        Part::Number(has_routing_context, tags::ROUTING_CONTEXT, routing_context),
+        Part::Codes,
+        &[],
+        affected_pcs,
+        out,
+    )
+}
+
+impl SuaMessage {
+    // ASP Up: ASP identifier, info string. 10, 14.
+    pub fn asp_up(
+        has_asp_id: bool,
+        asp_id: u32,
+        has_info: bool,
+        info: &[u8],
+        out: &mut [u8],
+    ) -> Counted
+        ensures { λ r. ⌜
+            delivered (countedOf r) (now (out .exit))
+            ≡ deliver (aspUp «has_asp_id» «asp_id» «has_info» (now (info .entry))) (now (out .entry)) ⌝ }
+    {
+        plain(
+            MessageType::AspUp,
+            Part::Absent,
+            Part::Number(has_asp_id, tags::ASP_IDENTIFIER, asp_id),
+            Part::Octets(has_info, tags::INFO_STRING),
+            info,
+            &[],
+            out,
+        )
+    }
+
+    // ASP Up Ack: info string. 10, 14.
+    pub fn asp_up_ack(has_info: bool, info: &[u8], out: &mut [u8]) -> Counted
+        ensures { λ r. ⌜
+            delivered (countedOf r) (now (out .exit))
+            ≡ deliver (infoOnly M.AspUpAck «has_info» (now (info .entry))) (now (out .entry)) ⌝ }
+    {
+        info_only(MessageType::AspUpAck, has_info, info, out)
+    }
+
+    // ASP Down: info string. 10, 14.
+    pub fn asp_down(has_info: bool, info: &[u8], out: &mut [u8]) -> Counted
+        ensures { λ r. ⌜
+            delivered (countedOf r) (now (out .exit))
+            ≡ deliver (infoOnly M.AspDown «has_info» (now (info .entry))) (now (out .entry)) ⌝ }
+    {
+        info_only(MessageType::AspDown, has_info, info, out)
+    }
+
+    // ASP Down Ack: info string. 10, 14.
+    pub fn asp_down_ack(has_info: bool, info: &[u8], out: &mut [u8]) -> Counted
+        ensures { λ r. ⌜
+            delivered (countedOf r) (now (out .exit))
+            ≡ deliver (infoOnly M.AspDownAck «has_info» (now (info .entry))) (now (out .entry)) ⌝ }
+    {
+        info_only(MessageType::AspDownAck, has_info, info, out)
+    }
+
+    // ASP Active: traffic mode type, routing context. 14.
+    pub fn asp_active(
+        has_traffic_mode: bool,
+        traffic_mode: u32,
+        has_routing_context: bool,
+        routing_context: u32,
+        out: &mut [u8],
+    ) -> Counted
+        ensures { λ r. ⌜
+            delivered (countedOf r) (now (out .exit))
+            ≡ deliver (trafficAndRc M.AspActive «has_traffic_mode» «traffic_mode» «has_routing_context» «routing_context»)
+            (now (out .entry)) ⌝ }
+    {
+        traffic_and_rc(
+            MessageType::AspActive,
+            has_traffic_mode,
+            traffic_mode,
+            has_routing_context,
+            routing_context,
+            out,
+        )
+    }
+
+    // ASP Active Ack: traffic mode type, routing context. 14.
+    pub fn asp_active_ack(
+        has_traffic_mode: bool,
+        traffic_mode: u32,
+        has_routing_context: bool,
+        routing_context: u32,
+        out: &mut [u8],
+    ) -> Counted
+        ensures { λ r. ⌜
+            delivered (countedOf r) (now (out .exit))
+            ≡ deliver (trafficAndRc M.AspActiveAck «has_traffic_mode» «traffic_mode» «has_routing_context» «routing_context»)
+            (now (out .entry)) ⌝ }
+    {
+        traffic_and_rc(
+            MessageType::AspActiveAck,
+            has_traffic_mode,
+            traffic_mode,
+            has_routing_context,
+            routing_context,
+            out,
+        )
+    }
+
+    // ASP Inactive: routing context. 14.
+    pub fn asp_inactive(has_routing_context: bool, routing_context: u32, out: &mut [u8]) -> Counted
+        ensures { λ r. ⌜
+            delivered (countedOf r) (now (out .exit))
+            ≡ deliver (rcOnly M.AspInactive «has_routing_context» «routing_context») (now (out .entry)) ⌝ }
+    {
+        rc_only(
+            MessageType::AspInactive,
+            has_routing_context,
+            routing_context,
+            out,
+        )
+    }
+
+    // ASP Inactive Ack: routing context. 14.
+    pub fn asp_inactive_ack(
+        has_routing_context: bool,
+        routing_context: u32,
+        out: &mut [u8],
+    ) -> Counted
+        ensures { λ r. ⌜
+            delivered (countedOf r) (now (out .exit))
+            ≡ deliver (rcOnly M.AspInactiveAck «has_routing_context» «routing_context») (now (out .entry)) ⌝ }
+    {
+        rc_only(
+            MessageType::AspInactiveAck,
+            has_routing_context,
+            routing_context,
+            out,
+        )
+    }
+
+    // Heartbeat: heartbeat data. 10, 14.
+    pub fn heartbeat(has_data: bool, data: &[u8], out: &mut [u8]) -> Counted
+        ensures { λ r. ⌜
+            delivered (countedOf r) (now (out .exit))
+            ≡ deliver (heartbeatLike M.Heartbeat «has_data» (now («data» .entry))) (now (out .entry)) ⌝ }
+    {
+        heartbeat_like(MessageType::Heartbeat, has_data, data, out)
+    }
+
+    // Heartbeat Ack: heartbeat data. 10, 14.
+    pub fn heartbeat_ack(has_data: bool, data: &[u8], out: &mut [u8]) -> Counted
+        ensures { λ r. ⌜
+            delivered (countedOf r) (now (out .exit))
+            ≡ deliver (heartbeatLike M.HeartbeatAck «has_data» (now («data» .entry))) (now (out .entry)) ⌝ }
+    {
+        heartbeat_like(MessageType::HeartbeatAck, has_data, data, out)
+    }
+
+    // Error: error code, routing context, diagnostic information. 10, 14.
+    pub fn error(
+        error_code: u32,
+        has_routing_context: bool,
+        routing_context: u32,
+        has_diagnostic_info: bool,
+        diagnostic_info: &[u8],
+        out: &mut [u8],
+    ) -> Counted
+        ensures { λ r. ⌜
+            delivered (countedOf r) (now (out .exit))
+            ≡ deliver (errorMessage «error_code» «has_routing_context» «routing_context» «has_diagnostic_info» (now («diagnostic_info» .entry)))
+            (now (out .entry)) ⌝ }
+    {
+        plain(
+            MessageType::Error,
+            Part::Number(true, tags::ERROR_CODE, error_code),
+            Part::Number(has_routing_context, tags::ROUTING_CONTEXT, routing_context),
+            Part::Octets(has_diagnostic_info, tags::DIAGNOSTIC_INFO),
+            diagnostic_info,
+            &[],
+            out,
+        )
+    }
+
+    // Notify: status, ASP identifier, routing context. 14.
+    pub fn notify(
+        status: u32,
+        has_asp_id: bool,
+        asp_id: u32,
+        has_routing_context: bool,
+        routing_context: u32,
+        out: &mut [u8],
+    ) -> Counted
+        ensures { λ r. ⌜
+            delivered (countedOf r) (now (out .exit))
+            ≡ deliver (notify status «has_asp_id» «asp_id» «has_routing_context» «routing_context») (now (out .entry)) ⌝ }
+    {
+        plain(
+            MessageType::Notify,
+            Part::Number(true, tags::STATUS, status),
+            Part::Number(has_asp_id, tags::ASP_IDENTIFIER, asp_id),
+            Part::Number(has_routing_context, tags::ROUTING_CONTEXT, routing_context),
+            &[],
+            &[],
+            out,
+        )
+    }
+
+    // Destination Unavailable: routing context, affected point codes. 10, 14.
+    pub fn duna(
+        has_routing_context: bool,
+        routing_context: u32,
+        affected_pcs: &[u32],
+        out: &mut [u8],
+    ) -> Counted
+        ensures { λ r. ⌜
+            delivered (countedOf r) (now (out .exit))
+            ≡ deliver (snm M.Duna «has_routing_context» «routing_context» (now («affected_pcs» .entry))) (now (out .entry)) ⌝ }
+    {
+        snm(
+            MessageType::Duna,
+            has_routing_context,
+            routing_context,
+            affected_pcs,
+            out,
+        )
+    }
+
+    // Destination Available: routing context, affected point codes. 10, 14.
+    pub fn dava(
+        has_routing_context: bool,
+        routing_context: u32,
+        affected_pcs: &[u32],
+        out: &mut [u8],
+    ) -> Counted
+        ensures { λ r. ⌜
+            delivered (countedOf r) (now (out .exit))
+            ≡ deliver (snm M.Dava «has_routing_context» «routing_context» (now («affected_pcs» .entry))) (now (out .entry)) ⌝ }
+    {
+        snm(
+            MessageType::Dava,
+            has_routing_context,
+            routing_context,
+            affected_pcs,
+            out,
+        )
+    }
+
+    // Destination State Audit: routing context, affected point codes. 10, 14.
+    pub fn daud(
+        has_routing_context: bool,
+        routing_context: u32,
+        affected_pcs: &[u32],
+        out: &mut [u8],
+    ) -> Counted
+        ensures { λ r. ⌜
+            delivered (countedOf r) (now (out .exit))
+            ≡ deliver (snm M.Daud «has_routing_context» «routing_context» (now («affected_pcs» .entry))) (now (out .entry)) ⌝ }
+    {
+        snm(
+            MessageType::Daud,
+            has_routing_context,
+            routing_context,
+            affected_pcs,
+            out,
+        )
+    }
+}

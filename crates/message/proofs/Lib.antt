@@ -6,4 +6,5 @@ pub mod Listing
 pub mod PointCodes
 pub mod Placing
 pub mod Constructing
+pub mod Addressing
 pub mod Accessing

@@ -21,7 +21,7 @@ use Rattle.message.specs.declared.parts.Part.the-variants as P
 use Rattle.message.proofs.PointCodes.{codes-length, pack-few}
 
 -- Two lists in a row, and three: what is written of them together, and its length.
-each-joined :
+pub each-joined :
     {A B : Type 0} (f : A → Outcome (List B)) (xs ys : List A)
     → each f (xs ++ ys) ≡ after (each f xs) (λ us. mapped (λ vs. us ++ vs) (each f ys))
 each-joined {A} {B} f [] ys = go (each f ys)
@@ -124,13 +124,18 @@ module _ (octets codes : List ℕ) where
       let (os, h, l) = mapped-inv length (each encodeParam (partParams part octets codes)) (sym e) in
       omega (arith, written-small (partParams part octets codes) os h, few part)
 
-  pub run-bounded : (a b c : Part) (n : ℕ) → accepted n ≡ mapped length (each encodeParam (runParams a b c octets codes)) → n ≤ 196608
-  run-bounded a b c n e =
+  pub run-few : (a b c : Part) → length (runParams a b c octets codes) ≤ 3
+  run-few a b c =
       let x = partParams a octets codes in
       let y = partParams b octets codes in
       let z = partParams c octets codes in
-      let (os, h, l) = mapped-inv length (each encodeParam (x ++ (y ++ z))) (sym e) in
-      omega (arith, written-small (x ++ (y ++ z)) os h, length-append x (y ++ z), length-append y z, few a, few b, few c)
+      omega (arith, length-append x (y ++ z), length-append y z, few a, few b, few c)
+
+  pub run-bounded : (a b c : Part) (n : ℕ) → accepted n ≡ mapped length (each encodeParam (runParams a b c octets codes)) → n ≤ 196608
+  run-bounded a b c n e =
+      let ps = runParams a b c octets codes in
+      let (os, h, l) = mapped-inv length (each encodeParam ps) (sym e) in
+      omega (arith, written-small ps os h, run-few a b c)
 
 -- One parameter, for which there is room.
 pub record Roomy (p : Param) (room : ℕ) : Type 0 where
@@ -275,18 +280,21 @@ wrote-first out o os {r} {last} known fit e =
     let put = e ∙ ap (λ (o : Outcome (List ℕ)). deliver o out) known in
     record { begun = begin out os last fit (deliver-buffer os out fit put); place = sym (accepted-inj (deliver-answer os out fit put)) }
 
--- Three runs in a row, for which there is room.
-pub record Three (x y z : List Param) (room : ℕ) : Type 0 where
+-- Three writings that make a whole, for which there is room.
+pub record Three (o p q whole : Outcome (List ℕ)) (room : ℕ) : Type 0 where
   pub one : List ℕ
   pub two : List ℕ
   pub three : List ℕ
-  pub first : each encodeParam x ≡ accepted one
-  pub second : each encodeParam y ≡ accepted two
-  pub third : each encodeParam z ≡ accepted three
-  pub all : each encodeParam (x ++ (y ++ z)) ≡ accepted ((one ++ two) ++ three)
+  pub first : o ≡ accepted one
+  pub second : p ≡ accepted two
+  pub third : q ≡ accepted three
+  pub all : whole ≡ accepted ((one ++ two) ++ three)
   pub fits : length one + length two + length three ≤ room
 
-pub three-parts : (x y z : List Param) (room : ℕ) → Placeable (each encodeParam (x ++ (y ++ z))) room → Three x y z room
+pub three-parts :
+    (x y z : List Param) (room : ℕ)
+    → Placeable (each encodeParam (x ++ (y ++ z))) room
+    → Three (each encodeParam x) (each encodeParam y) (each encodeParam z) (each encodeParam (x ++ (y ++ z))) room
 three-parts x y z room h =
     let (us, r, hu, hr, i) = each-split encodeParam x (y ++ z) (h .octets) (h .encoded) in
     let (vs, ws, hv, hw, j) = each-split encodeParam y z r hr in

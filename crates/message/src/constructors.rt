@@ -4,18 +4,25 @@ use crate::SuaMessage;
 use crate::header::CommonHeader;
 use crate::header::MessageType;
 use crate::parts::Part;
+use crate::parts::addressed_length;
+use crate::parts::put_numbers;
 use crate::parts::run_length;
+use crate::parts::write_addressed;
 use crate::parts::write_run;
+use address::SuaAddress;
 use bcd::error::Counted;
 use bcd::error::Refusal;
 use parameter::tags;
 ghost use mathlib.Core.Path.{_≡_};
+ghost use mathlib.Core.List.{[]};
 ghost use Rattle.bcd.specs.Outcome.{delivered, deliver};
 ghost use Rattle.bcd.specs.Answers.{countedOf};
+ghost use Rattle.parameter.specs.Table.{table};
+ghost use Rattle.address.specs.Given.{encodeAddressAs};
 ghost use Rattle.message.specs.declared.header.MessageType.the-variants as M;
 ghost use Rattle.message.specs.Constructors.{written, aspUp, infoOnly, trafficAndRc, rcOnly, heartbeatLike};
-ghost use Rattle.message.specs.Constructors.{errorMessage, notify, snm};
-ghost use Rattle.message.specs.ConstructorParts.{runParams};
+ghost use Rattle.message.specs.Constructors.{errorMessage, notify, snm, cldt, cldr};
+ghost use Rattle.message.specs.ConstructorParts.{runParams, connectionless};
 
 // The SS7 hop counter that a CLDT starts with (RFC 3868, 3.10.1).
 pub const DEFAULT_HOP_COUNTER: u8 = 15;
@@ -153,7 +160,182 @@ fn snm(
     )
 }
 
+// Writes a connectionless message: the routing context, one more number, the source `src` with its values, tags, starts and
+// lengths, the destination `dst` with its own, and three parts.
+fn connectionless(
+    message_type: MessageType,
+    routing_context: u32,
+    tag: u16,
+    n: u32,
+    src: SuaAddress,
+    sv: &[u8],
+    st: &[u16],
+    ss: &[usize],
+    sl: &[usize],
+    dst: SuaAddress,
+    dv: &[u8],
+    dt: &[u16],
+    ds: &[usize],
+    dl: &[usize],
+    x: Part,
+    y: Part,
+    z: Part,
+    data: &[u8],
+    out: &mut [u8],
+) -> Counted
+    ensures { λ r. ⌜
+        delivered (countedOf r) (now (out .exit))
+        ≡ deliver
+        (connectionless «message_type» «routing_context» tag n
+        (encodeAddressAs 0x0102 src (now (sv .entry)) (table (now (st .entry)) (now (ss .entry)) (now (sl .entry))))
+        (encodeAddressAs 0x0103 dst (now (dv .entry)) (table (now (dt .entry)) (now (ds .entry)) (now (dl .entry))))
+        (runParams x y z (now («data» .entry)) []))
+        (now (out .entry)) ⌝ }
+{
+    match addressed_length(src, sv, st, ss, sl, dst, dv, dt, ds, dl, x, y, z, data) {
+        Counted::Refused(r) => Counted::Refused(r),
+        Counted::Count(run) => {
+            let total = 24 + run;
+            if out.len() < total {
+                return Counted::Refused(Refusal::OutputTooSmall(total));
+            }
+            CommonHeader::new(message_type, total as u32).encode(out);
+            put_numbers(routing_context, tag, n, &mut out[8..]);
+            write_addressed(
+                src,
+                sv,
+                st,
+                ss,
+                sl,
+                dst,
+                dv,
+                dt,
+                ds,
+                dl,
+                x,
+                y,
+                z,
+                data,
+                &mut out[24..],
+            );
+            Counted::Count(total)
+        }
+    }
+}
+
 impl SuaMessage {
+    // CLDT: routing context, protocol class, both addresses, sequence control, SS7 hop counter, data. The source's refusals,
+    // the destination's (15, 11, 9, 10 for each other, 10 for the whole), 10 for the data, 14.
+    pub fn cldt(
+        routing_context: u32,
+        protocol_class: u8,
+        source: SuaAddress,
+        source_values: &[u8],
+        source_tags: &[u16],
+        source_starts: &[usize],
+        source_lengths: &[usize],
+        destination: SuaAddress,
+        destination_values: &[u8],
+        destination_tags: &[u16],
+        destination_starts: &[usize],
+        destination_lengths: &[usize],
+        sequence_control: u32,
+        has_ss7_hop_count: bool,
+        ss7_hop_count: u8,
+        data: &[u8],
+        out: &mut [u8],
+    ) -> Counted
+        ensures { λ r. ⌜
+            delivered (countedOf r) (now (out .exit))
+            ≡ deliver
+            (cldt «routing_context» «protocol_class»
+            source (now («source_values» .entry))
+            (table (now («source_tags» .entry)) (now («source_starts» .entry)) (now («source_lengths» .entry)))
+            destination (now («destination_values» .entry))
+            (table (now («destination_tags» .entry)) (now («destination_starts» .entry)) (now («destination_lengths» .entry)))
+            «sequence_control» «has_ss7_hop_count» «ss7_hop_count» (now («data» .entry)))
+            (now (out .entry)) ⌝ }
+    {
+        connectionless(
+            MessageType::Cldt,
+            routing_context,
+            tags::PROTOCOL_CLASS,
+            protocol_class as u32,
+            source,
+            source_values,
+            source_tags,
+            source_starts,
+            source_lengths,
+            destination,
+            destination_values,
+            destination_tags,
+            destination_starts,
+            destination_lengths,
+            Part::Number(true, tags::SEQUENCE_CONTROL, sequence_control),
+            Part::Number(
+                has_ss7_hop_count,
+                tags::SS7_HOP_COUNTER,
+                ss7_hop_count as u32,
+            ),
+            Part::Octets(true, tags::DATA),
+            data,
+            out,
+        )
+    }
+
+    // CLDR: routing context, SCCP cause, both addresses, data. The source's refusals, the destination's, 10 for the data, 14.
+    pub fn cldr(
+        routing_context: u32,
+        cause_type: u8,
+        cause_value: u8,
+        source: SuaAddress,
+        source_values: &[u8],
+        source_tags: &[u16],
+        source_starts: &[usize],
+        source_lengths: &[usize],
+        destination: SuaAddress,
+        destination_values: &[u8],
+        destination_tags: &[u16],
+        destination_starts: &[usize],
+        destination_lengths: &[usize],
+        has_data: bool,
+        data: &[u8],
+        out: &mut [u8],
+    ) -> Counted
+        ensures { λ r. ⌜
+            delivered (countedOf r) (now (out .exit))
+            ≡ deliver
+            (cldr «routing_context» «cause_type» «cause_value»
+            source (now («source_values» .entry))
+            (table (now («source_tags» .entry)) (now («source_starts» .entry)) (now («source_lengths» .entry)))
+            destination (now («destination_values» .entry))
+            (table (now («destination_tags» .entry)) (now («destination_starts» .entry)) (now («destination_lengths» .entry)))
+            «has_data» (now («data» .entry)))
+            (now (out .entry)) ⌝ }
+    {
+        connectionless(
+            MessageType::Cldr,
+            routing_context,
+            tags::SCCP_CAUSE,
+            (cause_type as u32) * 256 + (cause_value as u32),
+            source,
+            source_values,
+            source_tags,
+            source_starts,
+            source_lengths,
+            destination,
+            destination_values,
+            destination_tags,
+            destination_starts,
+            destination_lengths,
+            Part::Absent,
+            Part::Absent,
+            Part::Octets(has_data, tags::DATA),
+            data,
+            out,
+        )
+    }
+
     // ASP Up: ASP identifier, info string. 10, 14.
     pub fn asp_up(
         has_asp_id: bool,

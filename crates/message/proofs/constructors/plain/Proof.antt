@@ -1,16 +1,18 @@
 -- `message::constructors::plain` meets its contract: the header, then the parts in the rest of the output.
-use Prim.Native.Nat.{ℕ, _≤_}
+use Prim.Native.Nat.{ℕ, _+_, _≤_}
 use mathlib.Core.Path.{_≡_, refl, sym, ap, _∙_}
-use mathlib.Core.List.{List}
+use mathlib.Core.List.{List, []}
 use native.Mathlib.Omega.{arith}
 use lib.ListN.{length}
-use Rattle.bcd.specs.Outcome.{accepted, mapped}
+use Rattle.bcd.specs.Outcome.{Outcome, accepted, mapped}
 use Rattle.bcd.specs.Answers.{countedOf}
 use Rattle.bcd.specs.declared.error.Counted.{Counted}
 use Rattle.parameter.specs.Parameter.{Param}
+use Rattle.message.specs.Constructors.{written}
 use Rattle.message.specs.ConstructorParts.{runParams, runWritten}
+use Rattle.message.proofs.Listing.{written-framed}
 use Rattle.message.proofs.Placing.{run-bounded}
-use Rattle.message.proofs.Constructing.{made-refused, Made, made, made-short, made-ready, made-done}
+use Rattle.message.proofs.Constructing.{made-refused, Made, made, headed, made-short, made-ready, made-done}
 use borrow.Author.Needs.{needs}
 use Rattle.message.proofs.constructors.plain.Statement.{statement}
 use Rattle.message.proofs.constructors.plain.Tie as tie
@@ -36,10 +38,15 @@ small c =
     let s = start (measured c) in
     run-bounded (s .args .«data» .now) (s .args .codes .now) (s .args .first) (s .args .second) (s .args .third) _ (answered (measured c) _ (c .before .run .given .1))
 
-known : (c : tie.After-known-told2) → Made (start (measured c) .args .message-type) (params (start (measured c))) (c .before .run .given .0 .0)
+abbrev encoded : tie.Start → Outcome (List ℕ)
+encoded s = runWritten (s .args .first) (s .args .second) (s .args .third) (s .args .«data» .now) (s .args .codes .now)
+
+known :
+    (c : tie.After-known-told2)
+    → Made (start (measured c) .args .message-type) [] (encoded (start (measured c))) (written (start (measured c) .args .message-type) (params (start (measured c)))) (c .before .run .given .0 .0) (8 + c .before .run .given .0 .0)
 known c =
     let s = start (measured c) in
-    made (s .args .message-type) (params s) _ (answered (measured c) _ (c .before .run .given .1)) (omega (arith, small c))
+    made (s .args .message-type) [] (encoded s) _ (written-framed (s .args .message-type) (accepted (params s))) _ _ (answered (measured c) _ (c .before .run .given .1)) refl (omega (arith, small c))
 
 run-length-requires : tie.Need-run-length-requires
 run-length-requires c κs = search needs
@@ -84,13 +91,14 @@ write-run-requires c κs =
     let e = c .before .before .before in
     let i = e .before .before .before in
     let s = start (measured (i .before)) in
-    made-ready (known (i .before)) (s .args .out .now) (e .before .before .new .result) (i .if1 .left) (e .encode .ensures)
+    let h = e .before .before .new .result in
+    made-ready (known (i .before)) (s .args .out .now) h (headed h (s .args .out .now) (omega (arith, i .if1 .left)) (e .encode .ensures)) 8 refl (i .if1 .left)
 
 returns-2 : tie.Need-returns-2
 returns-2 c =
     let l = c .before .before .before in
     let s = start l in
-    made-refused (s .args .message-type) (params s) _ _ (s .args .out .now) (answered l _ (c .before .r .given .1))
+    made-refused (s .args .message-type) [] (encoded s) _ (written-framed (s .args .message-type) (accepted (params s))) _ _ (s .args .out .now) (answered l _ (c .before .r .given .1))
 
 same-length : tie.Need-same-length
 same-length c = search needs
@@ -102,7 +110,8 @@ returns-3 c =
     let n = e .before .before in
     let i = n .before in
     let s = start (measured (i .before)) in
-    made-done (known (i .before)) (s .args .out .now) (n .new .result) (i .if1 .left) (n .new .ensures) (e .encode .ensures) (w .write-run .ensures)
+    let h = n .new .result in
+    made-done (known (i .before)) (s .args .out .now) h (headed h (s .args .out .now) (omega (arith, i .if1 .left)) (e .encode .ensures)) 8 refl (i .if1 .left) (n .new .ensures) (w .write-run .ensures)
 
 pub plain-spec : {M : Type 1} → statement M
 plain-spec =

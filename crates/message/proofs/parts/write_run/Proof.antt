@@ -9,7 +9,7 @@ use Rattle.bcd.specs.Outcome.{Outcome, accepted, each, deliver}
 use Rattle.bcd.proofs.Outcomes.{accepted-inj}
 use Rattle.bcd.proofs.Writing.{delivered}
 use Rattle.parameter.specs.Parameter.{Param, encodeParam}
-use Rattle.message.specs.ConstructorParts.{partParams}
+use Rattle.message.specs.ConstructorParts.{partParams, runWritten}
 use Rattle.message.specs.declared.parts.Part.{Part}
 use Rattle.message.proofs.Placing.{Three, three-parts, placed-behind, WroteFirst, wrote-first, Wrote, wrote}
 use borrow.Author.Needs.{needs}
@@ -19,7 +19,13 @@ use Rattle.message.proofs.parts.write_run.Tie as tie
 abbrev params : tie.Start → Part → List Param
 params s p = partParams p (s .args .«data» .now) (s .args .codes .now)
 
-all : (s : tie.Start) → Three (params s (s .args .first)) (params s (s .args .second)) (params s (s .args .third)) (length (s .args .out .now))
+abbrev written : tie.Start → Part → Outcome (List ℕ)
+written s p = each encodeParam (params s p)
+
+all :
+    (s : tie.Start)
+    → Three (written s (s .args .first)) (written s (s .args .second)) (written s (s .args .third))
+    (runWritten (s .args .first) (s .args .second) (s .args .third) (s .args .«data» .now) (s .args .codes .now)) (length (s .args .out .now))
 all s = three-parts (params s (s .args .first)) (params s (s .args .second)) (params s (s .args .third)) (length (s .args .out .now)) (s .pre)
 
 -- the buffer after each part
@@ -33,7 +39,7 @@ one : (c : tie.After-put-part) → WroteFirst (start c .args .out .now) (all (st
 one c =
     let s = start c in
     let k = all s in
-    wrote-first (s .args .out .now) (each encodeParam (params s (s .args .first))) (k .one) (k .first) (omega (arith, k .fits)) (c .put-part .ensures)
+    wrote-first (s .args .out .now) (written s (s .args .first)) (k .one) (k .first) (omega (arith, k .fits)) (c .put-part .ensures)
 
 abbrev one-of : tie.After-put-part2 → tie.After-put-part
 one-of c = c .before .before .before .before
@@ -52,7 +58,7 @@ two c =
     let s = start f in
     let k = all s in
     let x = one f in
-    wrote (f .put-part .result) (each encodeParam (params s (s .args .second))) (k .two) (x .begun) (x .place) (k .second) (omega (arith, k .fits, x .place)) (c .put-part2 .ensures)
+    wrote (f .put-part .result) (written s (s .args .second)) (k .two) (x .begun) (x .place) (k .second) (omega (arith, k .fits, x .place)) (c .put-part2 .ensures)
 
 abbrev two-of : tie.After-put-part3 → tie.After-put-part2
 two-of c = c .before .before .before .before
@@ -70,7 +76,7 @@ three c =
     let s = start f in
     let k = all s in
     let y = two g in
-    wrote (second-at g) (each encodeParam (params s (s .args .third))) (k .three) (y .begun) (placed g) (k .third)
+    wrote (second-at g) (written s (s .args .third)) (k .three) (y .begun) (placed g) (k .third)
     (omega (arith, k .fits, one f .place, accepted-inj (y .count))) (c .put-part3 .ensures)
 
 put-part-requires : tie.Need-put-part-requires
@@ -96,7 +102,7 @@ put-part-requires-2 c κs =
     let s = start f in
     let k = all s in
     let x = one f in
-    placed-behind (f .put-part .result) (each encodeParam (params s (s .args .second))) (k .two) (x .begun) (k .second) (omega (arith, k .fits, x .place))
+    placed-behind (f .put-part .result) (written s (s .args .second)) (k .two) (x .begun) (k .second) (omega (arith, k .fits, x .place))
 
 add-b : tie.Need-add-b
 add-b c =
@@ -123,7 +129,7 @@ put-part-requires-3 c κs =
     let s = start f in
     let k = all s in
     let y = two g in
-    placed-behind (second-at g) (each encodeParam (params s (s .args .third))) (k .three) (y .begun) (k .third) (omega (arith, k .fits, one f .place, accepted-inj (y .count)))
+    placed-behind (second-at g) (written s (s .args .third)) (k .three) (y .begun) (k .third) (omega (arith, k .fits, one f .place, accepted-inj (y .count)))
 
 add-result : tie.Need-add-result
 add-result c =

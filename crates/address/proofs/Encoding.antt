@@ -17,7 +17,7 @@ use Rattle.parameter.specs.Table.{Table, records}
 use Rattle.parameter.proofs.RoundTrip.{run-length, run-length-append, encode-accepts, encode-inv, encodeParams-accepts}
 use Rattle.address.specs.Address.{indicator, pieces, sized, writeAddress}
 use Rattle.address.specs.Records.{flagged, titleOf, addressOf}
-use Rattle.address.specs.Given.{encodeAddress}
+use Rattle.address.specs.Given.{encodeAddressAs}
 use Rattle.address.specs.Steps.GivenParts.{givenTitle, givenParam, givenHead}
 use Rattle.address.specs.declared.SuaAddress.{SuaAddress}
 use Rattle.address.proofs.Planning.{mapped-refused, paramOf, codeParam, subOne, four-length, parts-written, parts-refused}
@@ -88,7 +88,7 @@ pub eight : (b : Bool) → pick b 8 0 ≤ 8
 eight true = omega arith
 eight false = omega arith
 
-module _ (a : SuaAddress) (values : List ℕ) (t : Table) where
+module _ (tag : ℕ) (a : SuaAddress) (values : List ℕ) (t : Table) where
   abbrev listed : Outcome (List Param)
   listed = records values t (a .«other_count»)
 
@@ -96,17 +96,17 @@ module _ (a : SuaAddress) (values : List ℕ) (t : Table) where
   titled = givenTitle (a .«has_title») (a .«global_title»)
 
   -- A record that reaches outside.
-  pub given-outside : (n : ℕ) (vs : List ℕ) → listed ≡ refused n vs → encodeAddress a values t ≡ refused n vs
-  unfolding encodeAddress
+  pub given-outside : (n : ℕ) (vs : List ℕ) → listed ≡ refused n vs → encodeAddressAs tag a values t ≡ refused n vs
+  unfolding encodeAddressAs
   given-outside n vs e = rw e
 
   module _ (os : List Param) (known : listed ≡ accepted os) where
     -- A title that is refused.
-    pub given-untitled : (n : ℕ) (vs : List ℕ) → titled ≡ refused n vs → encodeAddress a values t ≡ refused n vs
-    unfolding encodeAddress writeAddress pieces
+    pub given-untitled : (n : ℕ) (vs : List ℕ) → titled ≡ refused n vs → encodeAddressAs tag a values t ≡ refused n vs
+    unfolding encodeAddressAs writeAddress pieces
     given-untitled n vs e =
         rw known
-        (title-refuses (addressOf a os) (writeAddress builtIn 0) (a .«has_title») (a .«global_title») n vs e
+        (title-refuses (addressOf a os) (writeAddress builtIn tag) (a .«has_title») (a .«global_title») n vs e
         (λ h. rw (parts-refused (flagged (a .«has_title») (titleOf (a .«global_title»))) (flagged (a .«has_point_code») (a .«point_code»)) (flagged (a .«has_ssn») (a .ssn)) os n vs h)))
 
     module _ (ts : List Param) (e : titled ≡ accepted ts) where
@@ -116,8 +116,8 @@ module _ (a : SuaAddress) (values : List ℕ) (t : Table) where
           let s = eight (a .«has_ssn») in
           omega (arith, front-length a ts, title-small (a .«has_title») (a .«global_title») (runLength ts) (sym (ap (mapped runLength) e)))
 
-      given-pieces : encodeAddress a values t ≡ after (each encodeParam (wholeOf a ts os)) (λ w. sized 0 (givenHead a ++ w))
-      unfolding encodeAddress writeAddress pieces indicator
+      given-pieces : encodeAddressAs tag a values t ≡ after (each encodeParam (wholeOf a ts os)) (λ w. sized tag (givenHead a ++ w))
+      unfolding encodeAddressAs writeAddress pieces indicator
       given-pieces =
           let (goes, one) = title-accepts (addressOf a os) (a .«has_title») (a .«global_title») ts e in
           rw (known, goes, parts-written (flagged (a .«has_title») (titleOf (a .«global_title»))) (flagged (a .«has_point_code») (a .«point_code»)) (flagged (a .«has_ssn») (a .ssn)) os ts one)
@@ -127,8 +127,8 @@ module _ (a : SuaAddress) (values : List ℕ) (t : Table) where
           let small = encode-accepts (frontOf a ts) (run-sized (frontOf a ts) (omega (arith, front-small))) in
           ap (each encodeParam) (front-whole a ts os) ∙ each-behind encodeParam (frontOf a ts) os (runOctets (frontOf a ts)) small
 
-      given-runs : encodeAddress a values t ≡ after (mapped (λ w. runOctets (frontOf a ts) ++ w) (each encodeParam os)) (λ w. sized 0 (givenHead a ++ w))
-      given-runs = given-pieces ∙ ap (λ (o : Outcome (List ℕ)). after o (λ w. sized 0 (givenHead a ++ w))) pieces-runs
+      given-runs : encodeAddressAs tag a values t ≡ after (mapped (λ w. runOctets (frontOf a ts) ++ w) (each encodeParam os)) (λ w. sized tag (givenHead a ++ w))
+      given-runs = given-pieces ∙ ap (λ (o : Outcome (List ℕ)). after o (λ w. sized tag (givenHead a ++ w))) pieces-runs
 
   -- The others, measured.
   module _ (os : List Param) (known : listed ≡ accepted os) (k : ℕ) (there : accepted k ≡ mapped runLength titled) where
@@ -136,7 +136,7 @@ module _ (a : SuaAddress) (values : List ℕ) (t : Table) where
     encoded-others = ap (λ (o : Outcome (List Param)). after o (each encodeParam)) known
 
     -- One of them is too long.
-    pub given-refused : (n : ℕ) (vs : List ℕ) → refused n vs ≡ mapped (λ (w : List ℕ). fit64 (length w)) (after listed (each encodeParam)) → encodeAddress a values t ≡ refused n vs
+    pub given-refused : (n : ℕ) (vs : List ℕ) → refused n vs ≡ mapped (λ (w : List ℕ). fit64 (length w)) (after listed (each encodeParam)) → encodeAddressAs tag a values t ≡ refused n vs
     given-refused n vs e =
         let (ts, ht, l) = mapped-inv runLength titled (sym there) in
         let r : each encodeParam os ≡ refused n vs = mapped-refused (λ (w : List ℕ). fit64 (length w)) (each encodeParam os) (e ∙ ap (mapped (λ (w : List ℕ). fit64 (length w))) encoded-others) in
@@ -147,7 +147,7 @@ module _ (a : SuaAddress) (values : List ℕ) (t : Table) where
       record Summed : Type 0 where
         octets : List ℕ
         size : total ≡ fit64 (length octets)
-        made : encodeAddress a values t ≡ sized 0 octets
+        made : encodeAddressAs tag a values t ≡ sized tag octets
 
       summed : Summed
       summed =
@@ -158,43 +158,43 @@ module _ (a : SuaAddress) (values : List ℕ) (t : Table) where
           record {
             octets = givenHead a ++ (u ++ w);
             size = omega (arith, run-length (frontOf a ts), front-length a ts);
-            made = given-runs os known ts ht ∙ ap (λ (o : Outcome (List ℕ)). after (mapped (λ w. u ++ w) o) (λ w. sized 0 (givenHead a ++ w))) hw;
+            made = given-runs os known ts ht ∙ ap (λ (o : Outcome (List ℕ)). after (mapped (λ w. u ++ w) o) (λ w. sized tag (givenHead a ++ w))) hw;
           }
 
       -- The whole is too long.
-      pub given-long : mostValue < total → encodeAddress a values t ≡ refused 10 (0 ∷ total ∷ [])
+      pub given-long : mostValue < total → encodeAddressAs tag a values t ≡ refused 10 (tag ∷ total ∷ [])
       given-long h =
           let s = summed in
           s .made ∙ rw (lt-leb (length (s .octets)) mostValue (omega (arith, s .size)), sym (s .size))
 
-      pub given-counted : total ≤ mostValue → accepted total ≡ mapped length (encodeAddress a values t)
+      pub given-counted : total ≤ mostValue → accepted total ≡ mapped length (encodeAddressAs tag a values t)
       given-counted h =
           let s = summed in
           let l : total ≡ length (s .octets) = omega (arith, s .size) in
-          let within : sized 0 (s .octets) ≡ accepted (s .octets) = rw (le-leb (length (s .octets)) mostValue (omega (arith, s .size))) in
+          let within : sized tag (s .octets) ≡ accepted (s .octets) = rw (le-leb (length (s .octets)) mostValue (omega (arith, s .size))) in
           ap accepted l ∙ sym (ap (mapped length) (s .made ∙ within))
 
 -- An address that is written, as so many octets.
-pub record Known (a : SuaAddress) (values : List ℕ) (t : Table) (total : ℕ) : Type 0 where
+pub record Known (tag : ℕ) (a : SuaAddress) (values : List ℕ) (t : Table) (total : ℕ) : Type 0 where
   pub others : List Param
   pub titled : List Param
   pub title : givenTitle (a .«has_title») (a .«global_title») ≡ accepted titled
   pub encoded : after (records values t (a .«other_count»)) encodeParams ≡ accepted (runOctets others)
-  pub octets : encodeAddress a values t ≡ accepted (givenHead a ++ runOctets (wholeOf a titled others))
+  pub octets : encodeAddressAs tag a values t ≡ accepted (givenHead a ++ runOctets (wholeOf a titled others))
   pub size : 4 + runLength titled + runLength (codesOf a) + runLength (subsOf a) + runLength others ≡ total
   pub fits : total ≤ mostValue
 
-module _ (a : SuaAddress) (values : List ℕ) (t : Table) (total : ℕ) (e : accepted total ≡ mapped length (encodeAddress a values t)) where
+module _ (tag : ℕ) (a : SuaAddress) (values : List ℕ) (t : Table) (total : ℕ) (e : accepted total ≡ mapped length (encodeAddressAs tag a values t)) where
   known-titled :
       (w : List ℕ)
-      → encodeAddress a values t ≡ accepted w
+      → encodeAddressAs tag a values t ≡ accepted w
       → length w ≡ total
       → (os : List Param) (inside : records values t (a .«other_count») ≡ accepted os) (ts : List Param)
       → givenTitle (a .«has_title») (a .«global_title») ≡ accepted ts
-      → Known a values t total
+      → Known tag a values t total
   known-titled w hw l os inside ts title =
-      let (x, hx, rest) = after-inv (each encodeParam (wholeOf a ts os)) _ (sym (given-pieces a values t os inside ts title) ∙ hw) in
-      let (y, hy, j) = mapped-inv (λ w. runOctets (frontOf a ts) ++ w) (each encodeParam os) (sym (pieces-runs a values t os inside ts title) ∙ hx) in
+      let (x, hx, rest) = after-inv (each encodeParam (wholeOf a ts os)) _ (sym (given-pieces tag a values t os inside ts title) ∙ hw) in
+      let (y, hy, j) = mapped-inv (λ w. runOctets (frontOf a ts) ++ w) (each encodeParam os) (sym (pieces-runs tag a values t os inside ts title) ∙ hx) in
       let (small, same) = demand-inv (leb (length (givenHead a ++ x)) mostValue) _ _ _ rest in
       let all = encode-inv (wholeOf a ts os) x hx in
       let sizes = encode-inv os y hy .sizes in
@@ -212,24 +212,24 @@ module _ (a : SuaAddress) (values : List ℕ) (t : Table) (total : ℕ) (e : acc
         fits = fits;
       }
 
-  pub given-known : Known a values t total
-  unfolding encodeAddress
+  pub given-known : Known tag a values t total
+  unfolding encodeAddressAs
   given-known =
-      let (w, hw, l) = mapped-inv length (encodeAddress a values t) (sym e) in
+      let (w, hw, l) = mapped-inv length (encodeAddressAs tag a values t) (sym e) in
       let (os, inside, rest) = after-inv (records values t (a .«other_count»)) _ hw in
       go w hw l os inside (givenTitle (a .«has_title») (a .«global_title»)) refl
     where
       go :
           (w : List ℕ)
-          → encodeAddress a values t ≡ accepted w
+          → encodeAddressAs tag a values t ≡ accepted w
           → length w ≡ total
           → (os : List Param)
           → records values t (a .«other_count») ≡ accepted os
           → (o : Outcome (List Param))
           → givenTitle (a .«has_title») (a .«global_title») ≡ o
-          → Known a values t total
+          → Known tag a values t total
       go w hw l os inside (accepted ts) h = known-titled w hw l os inside ts h
-      go w hw l os inside (refused n vs) h = absurd (never (sym (given-untitled a values t os inside n vs h) ∙ hw))
+      go w hw l os inside (refused n vs) h = absurd (never (sym (given-untitled tag a values t os inside n vs h) ∙ hw))
 
 -- Room for a sub-parameter of four octets behind what was written.
 pub four-behind :
@@ -243,13 +243,13 @@ four-behind f h b n {out} {p} {d} at w room = omega (arith, four-length f h b n,
 
 -- The others behind the rest: all is written.
 pub given-done :
-    {a : SuaAddress} {values : List ℕ} {t : Table} {total : ℕ} (k : Known a values t total) {out d last : List ℕ} {p : Outcome ℕ} (at : ℕ)
+    {tag : ℕ} {a : SuaAddress} {values : List ℕ} {t : Table} {total : ℕ} (k : Known tag a values t total) {out d last : List ℕ} {p : Outcome ℕ} (at : ℕ)
     → Begun out (partsOctets (givenHead a) (k .titled) (codesOf a) (subsOf a)) d
     → length (partsOctets (givenHead a) (k .titled) (codesOf a) (subsOf a)) ≡ at
     → at + runLength (k .others) ≤ length out
     → record { answer = p; buffer = last } ≡ deliver (after (records values t (a .«other_count»)) encodeParams) (midOf at (length d - at) d)
-    → record { answer = accepted total; buffer = putMid at (length d - at) d last } ≡ deliver (encodeAddress a values t) out
-given-done {a} {values} {t} {total} k {out} {d} {last} at b place room e =
+    → record { answer = accepted total; buffer = putMid at (length d - at) d last } ≡ deliver (encodeAddressAs tag a values t) out
+given-done {tag} {a} {values} {t} {total} k {out} {d} {last} at b place room e =
     let lent = midOf at (length d - at) d in
     let fit : length (runOctets (k .others)) ≤ length lent = omega (arith, run-length (k .others), lent-length d at, b .same) in
     let put = deliver-buffer (runOctets (k .others)) lent fit (e ∙ ap (λ (o : Outcome (List ℕ)). deliver o lent) (k .encoded)) in

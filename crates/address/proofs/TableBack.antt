@@ -21,7 +21,7 @@ use Rattle.address.specs.Address.{Title, titleAt, Address, addressWith, 
 use Rattle.address.specs.Records.{titleOf, titleGiven, flagged, addressOf, addressGiven}
 use Rattle.address.specs.Titles.{recordOf, noTitle}
 use Rattle.address.specs.Listing.{isOther, otherPlaces, addressPlaces, isThere, addressRecord, recordIn, Listed, listed, listAddress}
-use Rattle.address.specs.Given.{encodeAddress}
+use Rattle.address.specs.Given.{encodeAddressAs, encodeAddress}
 use Rattle.address.specs.Parts.{nothing, noteAll}
 use Rattle.address.specs.Steps.Kept.{keptTitle}
 use Rattle.address.specs.Steps.Plan.{Read}
@@ -128,7 +128,7 @@ module _ {v : List ℕ} {s : Parts} (y : Read v s) where
       (values : List ℕ) (held : Table)
       → records values held (length (otherPlaces ps)) ≡ accepted (map (valued v) (otherPlaces ps))
       → encodeAddress (addressRecord a) values held ≡ writeAddress builtIn 0 a
-  unfolding encodeAddress
+  unfolding encodeAddressAs
   record-written values held e =
       let from-table : records values held (length (a .others)) ≡ accepted (a .others) =
       ap (records values held) (ap length others ∙ length-map (otherPlaces ps) (valued v)) ∙ e ∙ ap accepted (sym others) in

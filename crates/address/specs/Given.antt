@@ -9,8 +9,12 @@ use Rattle.address.specs.Records.{addressGiven}
 use Rattle.address.specs.declared.SuaAddress.{SuaAddress}
 
 -- The other sub-parameters are records over a lent slice of values. 15, 11, 9, 10 for each other, 10 for the whole
--- (document 01, 'Order'), with tag 0, since the address is written alone ('Refused because of the input').
-unfoldable pub encodeAddress : SuaAddress → (values : List ℕ) → Table → Outcome (List ℕ)
-encodeAddress a values t =
+-- (document 01, 'Order'), with the tag of the parameter that the address is to be the value of.
+unfoldable pub encodeAddressAs : (tag : ℕ) → SuaAddress → (values : List ℕ) → Table → Outcome (List ℕ)
+encodeAddressAs tag a values t =
     after (records values t (a .«other_count»)) (λ others.
-    after (addressGiven a others) (writeAddress builtIn 0))
+    after (addressGiven a others) (writeAddress builtIn tag))
+
+-- An address written alone has tag 0 (document 01, 'Refused because of the input').
+abbrev pub encodeAddress : SuaAddress → (values : List ℕ) → Table → Outcome (List ℕ)
+encodeAddress = encodeAddressAs 0

@@ -16,7 +16,7 @@ ghost use Rattle.bcd.specs.Answers.{countedOf};
 ghost use Rattle.parameter.specs.Parameter.{param, four, runOctets, runLength};
 ghost use Rattle.parameter.specs.Table.{table};
 ghost use Rattle.address.specs.Steps.Plan.{Ready};
-ghost use Rattle.address.specs.Given.{encodeAddress};
+ghost use Rattle.address.specs.Given.{encodeAddressAs, encodeAddress};
 ghost use Rattle.address.specs.Steps.GivenParts.{givenTitle, givenParam, givenHead};
 
 // What the title takes on the wire, if it is there. 11, 9.
@@ -37,8 +37,9 @@ fn title_length(there: bool, gt: GlobalTitle) -> Counted
     Counted::Count(0)
 }
 
-// How many octets an address value has. 15, 11, 9, 10 for each other, 10 for the whole (tag 0).
-fn encoded_length(
+// How many octets an address value has. 15, 11, 9, 10 for each other, 10 for the whole, with the tag given.
+pub fn encoded_length(
+    tag: u16,
     address: SuaAddress,
     values: &[u8],
     tags: &[u16],
@@ -48,7 +49,7 @@ fn encoded_length(
     ensures { λ r. ⌜
         countedOf r
         ≡ mapped length
-        (encodeAddress address (now (values .entry)) (table (now (tags .entry)) (now (starts .entry)) (now (lengths .entry)))) ⌝ }
+        (encodeAddressAs tag address (now (values .entry)) (table (now (tags .entry)) (now (starts .entry)) (now (lengths .entry)))) ⌝ }
 {
     let count = address.other_count;
     if parameter::table::outside(values, tags, starts, lengths, count) {
@@ -65,7 +66,7 @@ fn encoded_length(
                     let ssn = four_length(address.has_ssn);
                     let length = parameter::saturating_add(4 + title + code + ssn, others);
                     if 65531 < length {
-                        return Counted::Refused(Refusal::ValueTooLong { tag: 0, length });
+                        return Counted::Refused(Refusal::ValueTooLong { tag, length });
                     }
                     Counted::Count(length)
                 }
@@ -105,7 +106,7 @@ fn write_title(there: bool, gt: GlobalTitle, out: &mut [u8]) -> usize
 }
 
 // A 32-bit number, the high octet first.
-fn four_octets(n: u32) -> [u8; 4]
+pub fn four_octets(n: u32) -> [u8; 4]
     ensures { λ r. ⌜ r ≡ four n ⌝ }
 {
     let high = n / 65536;
@@ -134,6 +135,7 @@ fn write_four(there: bool, tag: u16, value: [u8; 4], out: &mut [u8]) -> usize
 
 // Writes an address value, which has `total` octets.
 fn write(
+    tag: u16,
     address: SuaAddress,
     values: &[u8],
     tags: &[u16],
@@ -144,12 +146,12 @@ fn write(
 )
     requires { ⌜
         accepted total
-        ≡ mapped length (encodeAddress address (now values) (table (now tags) (now starts) (now lengths))) ⌝ }
+        ≡ mapped length (encodeAddressAs tag address (now values) (table (now tags) (now starts) (now lengths))) ⌝ }
     requires { ⌜ total ≤ length (now out) ⌝ }
     ensures { λ _. ⌜
         delivered (accepted total) (now (out .exit))
         ≡ deliver
-        (encodeAddress address (now (values .entry)) (table (now (tags .entry)) (now (starts .entry)) (now (lengths .entry))))
+        (encodeAddressAs tag address (now (values .entry)) (table (now (tags .entry)) (now (starts .entry)) (now (lengths .entry))))
         (now (out .entry)) ⌝ }
 {
     let gt = address.global_title;
@@ -165,7 +167,34 @@ fn write(
 
 impl SuaAddress {
     // Writes an address value; its other sub-parameters are records over a lent slice of values. 15, 11, 9, 10 for each
-    // other, 10 for the whole (tag 0), 14.
+    // other, 10 for the whole, with the tag given, 14.
+    pub fn encode_as(
+        self,
+        tag: u16,
+        values: &[u8],
+        tags: &[u16],
+        starts: &[usize],
+        lengths: &[usize],
+        out: &mut [u8],
+    ) -> Counted
+        ensures { λ r. ⌜
+            delivered (countedOf r) (now (out .exit))
+            ≡ deliver (encodeAddressAs tag self (now (values .entry)) (table (now (tags .entry)) (now (starts .entry)) (now (lengths .entry))))
+            (now (out .entry)) ⌝ }
+    {
+        match encoded_length(tag, self, values, tags, starts, lengths) {
+            Counted::Refused(r) => Counted::Refused(r),
+            Counted::Count(total) => {
+                if out.len() < total {
+                    return Counted::Refused(Refusal::OutputTooSmall(total));
+                }
+                write(tag, self, values, tags, starts, lengths, total, out);
+                Counted::Count(total)
+            }
+        }
+    }
+
+    // Writes an address value alone: its tag is 0.
     pub fn encode(
         self,
         values: &[u8],
@@ -180,15 +209,6 @@ impl SuaAddress {
             (encodeAddress self (now (values .entry)) (table (now (tags .entry)) (now (starts .entry)) (now (lengths .entry))))
             (now (out .entry)) ⌝ }
     {
-        match encoded_length(self, values, tags, starts, lengths) {
-            Counted::Refused(r) => Counted::Refused(r),
-            Counted::Count(total) => {
-                if out.len() < total {
-                    return Counted::Refused(Refusal::OutputTooSmall(total));
-                }
-                write(self, values, tags, starts, lengths, total, out);
-                Counted::Count(total)
-            }
-        }
+        self.encode_as(0, values, tags, starts, lengths, out)
     }
 }

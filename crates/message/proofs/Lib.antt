@@ -7,6 +7,9 @@ pub mod Messages
 pub mod Listing
 pub mod Standing
 pub mod PointCodes
+pub mod Placing
+pub mod Constructing
+pub mod Addressing
 pub mod Accessing
 pub mod Addresses
 pub mod AddressBack

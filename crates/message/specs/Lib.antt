@@ -5,3 +5,5 @@ pub mod Listing
 pub mod Standing
 pub mod PointCodes
 pub mod Accessors
+pub mod Constructors
+pub mod ConstructorParts

@@ -1,6 +1,8 @@
 // Messages, read and written (message.rs; RFC 3868, 3.1).
 pub mod accessors;
+pub mod constructors;
 pub mod header;
+mod parts;
 pub mod point_codes;
 pub mod types;
 

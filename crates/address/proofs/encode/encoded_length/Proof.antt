@@ -74,7 +74,7 @@ returns : tie.Need-returns
 returns c =
     let o = c .before in
     let s = start o in
-    sym (ap (mapped length) (given-outside (s .args .address) (s .args .values .now) (table s) 15 [] (told-outside (listed s) (o .outside .result) 15 [] _ (o .outside .ensures) (c .if1 .taken))))
+    sym (ap (mapped length) (given-outside (s .args .tag) (s .args .address) (s .args .values .now) (table s) 15 [] (told-outside (listed s) (o .outside .result) 15 [] _ (o .outside .ensures) (c .if1 .taken))))
 
 title-length-requires : tie.Need-title-length-requires
 title-length-requires c κs = search needs
@@ -117,7 +117,7 @@ returns-2 c =
     let m = c .before in
     let k = title-of (m .before) in
     let s = begun k in
-    sym (ap (mapped length) (given-long (s .args .address) (s .args .values .now) (table s) _ (inside (k .before .before .before .before .before)) _ (titled k) _ _ (others (m .before)) (sum m) (c .if2 .taken)))
+    sym (ap (mapped length) (given-long (s .args .tag) (s .args .address) (s .args .values .now) (table s) _ (inside (k .before .before .before .before .before)) _ (titled k) _ _ (others (m .before)) (sum m) (c .if2 .taken)))
 
 returns-3 : tie.Need-returns-3
 returns-3 c =
@@ -125,21 +125,21 @@ returns-3 c =
     let e = t .before .before in
     let s = start (e .before) in
     let g = givenTitle (s .args .address .«has_title») (s .args .address .«global_title») in
-    sym (ap (mapped length) (given-untitled (s .args .address) (s .args .values .now) (table s) _ (inside e) _ _ (mapped-refused runLength g (sym (ap countedOf (c .before .r .given .1)) ∙ t .title-length .ensures))))
+    sym (ap (mapped length) (given-untitled (s .args .tag) (s .args .address) (s .args .values .now) (table s) _ (inside e) _ _ (mapped-refused runLength g (sym (ap countedOf (c .before .r .given .1)) ∙ t .title-length .ensures))))
 
 returns-4 : tie.Need-returns-4
 returns-4 c =
     let p = c .before .before .before in
     let k = p .before in
     let s = begun k in
-    sym (ap (mapped length) (given-refused (s .args .address) (s .args .values .now) (table s) _ (inside (k .before .before .before .before .before)) _ (titled k) _ _ (sym (ap countedOf (c .before .s .given .1)) ∙ p .parameters-length .ensures)))
+    sym (ap (mapped length) (given-refused (s .args .tag) (s .args .address) (s .args .values .now) (table s) _ (inside (k .before .before .before .before .before)) _ (titled k) _ _ (sym (ap countedOf (c .before .s .given .1)) ∙ p .parameters-length .ensures)))
 
 returns-5 : tie.Need-returns-5
 returns-5 c =
     let m = c .before in
     let k = title-of (m .before) in
     let s = begun k in
-    given-counted (s .args .address) (s .args .values .now) (table s) _ (inside (k .before .before .before .before .before)) _ (titled k) _ _ (others (m .before)) (sum m) (c .if2 .left)
+    given-counted (s .args .tag) (s .args .address) (s .args .values .now) (table s) _ (inside (k .before .before .before .before .before)) _ (titled k) _ _ (others (m .before)) (sum m) (c .if2 .left)
 
 pub encoded-length-spec : {M : Type 1} → statement M
 encoded-length-spec =

@@ -20,8 +20,8 @@ use Rattle.address.proofs.encode.write.Tie as tie
 abbrev table : tie.Start → Table
 table s = record { tags = s .args .tags .now; starts = s .args .starts .now; lengths = s .args .lengths .now }
 
-known : (c : tie.Start) → Known (c .args .address) (c .args .values .now) (table c) (c .args .total)
-known c = given-known (c .args .address) (c .args .values .now) (table c) (c .args .total) (c .pre .0)
+known : (c : tie.Start) → Known (c .args .tag) (c .args .address) (c .args .values .now) (table c) (c .args .total)
+known c = given-known (c .args .tag) (c .args .address) (c .args .values .now) (table c) (c .args .total) (c .pre .0)
 
 -- the buffer after each part
 abbrev start : tie.After-write-head → tie.Start

@@ -1,4 +1,4 @@
--- `address::SuaAddress::encode` meets its contract.
+-- `address::SuaAddress::encode_as` meets its contract.
 use borrow.Author.Needs.{needs}
 use mathlib.Core.Path.{_≡_, sym, ap, _∙_}
 use lib.ListN.{length}
@@ -6,9 +6,9 @@ use Rattle.bcd.specs.Outcome.{mapped}
 use Rattle.bcd.specs.Answers.{countedOf}
 use Rattle.bcd.specs.declared.error.Counted.{Counted}
 use Rattle.bcd.proofs.Outcomes.{deliver-too-long, deliver-passed-on}
-use Rattle.address.specs.Given.{encodeAddress}
-use Rattle.address.proofs.SuaAddress.encode.Statement.{statement}
-use Rattle.address.proofs.SuaAddress.encode.Tie as tie
+use Rattle.address.specs.Given.{encodeAddressAs}
+use Rattle.address.proofs.SuaAddress.encode_as.Statement.{statement}
+use Rattle.address.proofs.SuaAddress.encode_as.Tie as tie
 
 abbrev start : tie.After-encoded-length → tie.Start
 start c = c .before .before .before .before .before .before
@@ -18,7 +18,7 @@ answered :
     (c : tie.After-encoded-length) (r : Counted)
     → c .encoded-length .result ≡ r
     → countedOf r
-    ≡ mapped length (encodeAddress (start c .args .self) (start c .args .values .now) (record { tags = start c .args .tags .now; starts = start c .args .starts .now; lengths = start c .args .lengths .now }))
+    ≡ mapped length (encodeAddressAs (start c .args .tag) (start c .args .self) (start c .args .values .now) (record { tags = start c .args .tags .now; starts = start c .args .starts .now; lengths = start c .args .lengths .now }))
 answered c r e = sym (ap countedOf e) ∙ c .encoded-length .ensures
 
 encoded-length-requires : tie.Need-encoded-length-requires
@@ -45,8 +45,8 @@ same-length c = search needs
 returns-3 : tie.Need-returns-3
 returns-3 c = search needs
 
-pub encode-spec : {M : Type 1} → statement M
-encode-spec =
+pub encode-as-spec : {M : Type 1} → statement M
+encode-as-spec =
     tie.close
     (tie.spec
     encoded-length-requires

@@ -1,6 +1,6 @@
 // SUA addresses: routing indicator, global title, point code, subsystem number (address.rs; RFC 3868, 3.10.2).
 pub mod decode;
-mod encode;
+pub mod encode;
 pub mod interpret;
 pub mod parts;
 pub mod rewrite;

@@ -7,4 +7,7 @@ pub mod PointCodes
 pub mod Placing
 pub mod Constructing
 pub mod Addressing
+pub mod GivenBack
+pub mod Constructed
+pub mod ConstructedWorked
 pub mod Accessing

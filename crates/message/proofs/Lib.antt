@@ -10,6 +10,9 @@ pub mod PointCodes
 pub mod Placing
 pub mod Constructing
 pub mod Addressing
+pub mod GivenBack
+pub mod Constructed
+pub mod ConstructedWorked
 pub mod Accessing
 pub mod Addresses
 pub mod AddressBack

@@ -493,7 +493,8 @@ impl SuaMessage {
     ) -> Counted
         ensures { λ r. ⌜
             delivered (countedOf r) (now (out .exit))
-            ≡ deliver (errorMessage «error_code» «has_routing_context» «routing_context» «has_diagnostic_info» (now («diagnostic_info» .entry)))
+            ≡ deliver
+            (errorMessage «error_code» «has_routing_context» «routing_context» «has_diagnostic_info» (now («diagnostic_info» .entry)))
             (now (out .entry)) ⌝ }
     {
         plain(

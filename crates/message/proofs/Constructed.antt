@@ -1,0 +1,186 @@
+-- What a constructor wrote, read back: its type and parameters, and the arguments of a CLDT by name.
+use Prim.Native.Nat.{ℕ}
+use mathlib.Core.Path.{_≡_, refl, sym, ap, _∙_}
+use mathlib.Core.Bool.{Bool, true, false}
+use mathlib.Core.Option.{Option, none, some}
+use mathlib.Core.List.{List, [], _∷_, _++_, map}
+use native.Mathlib.Omega.{arith}
+use lib.Dec.{eqb}
+use lib.ListN.{drop}
+use Rattle.bcd.specs.Outcome.{Outcome, accepted, refused, pick, after, mapped, All}
+use Rattle.bcd.specs.Digits.{builtIn}
+use Rattle.bcd.proofs.Outcomes.{accepted-inj, after-inv, mapped-inv}
+use Rattle.parameter.specs.declared.Place.{Place}
+use Rattle.parameter.specs.Parameter.{Param, fourIn}
+use Rattle.parameter.specs.Walk.{places, valued, parameters}
+use Rattle.parameter.specs.Table.{Table, Tabulated, tabulate, records, firstWith, findParam}
+use Rattle.parameter.proofs.Structure.{places-parameters}
+use Rattle.parameter.proofs.Walking.{places-inside}
+use Rattle.parameter.proofs.Records.{firstRows, held}
+use Rattle.parameter.proofs.Stored.{stored-records}
+use Rattle.address.specs.Address.{Address, readAddress}
+use Rattle.address.specs.Records.{flagged, addressOf}
+use Rattle.address.specs.declared.SuaAddress.{SuaAddress}
+use Rattle.address.specs.Given.{encodeAddressAs}
+use Rattle.message.specs.declared.SuaMessage.{SuaMessage}
+use Rattle.message.specs.declared.header.MessageType.{MessageType}
+use Rattle.message.specs.declared.header.MessageType.the-variants as M
+use Rattle.message.specs.Message.{Message, readHeader, readMessage, messagePlaces}
+use Rattle.message.specs.Listing.{Listed, listMessage}
+use Rattle.message.specs.Accessors.{ofFour, readAt, firstRead, fourth, routingContext, protocolClass, sequenceControl, ss7HopCount, shown, dataPart}
+use Rattle.message.specs.Constructors.{written, param, number, octet, given, cldt}
+use Rattle.message.proofs.Messages.{written-reads}
+use Rattle.message.proofs.GivenBack.{four-back, Other, foldAddress, given-back}
+
+-- A message without addresses is read back as its type and parameters.
+pub constructed-reads : (m : MessageType) (ps : List Param) (os : List ℕ) → written m ps ≡ accepted os → readMessage os ≡ accepted (record { type = m; params = ps })
+constructed-reads m ps os e = written-reads (record { type = m; params = ps }) os e
+
+-- So is one with two addresses, as they were written.
+pub record ReadsWith (m : MessageType) (ps : (source destination : List ℕ) → List Param) (s d : Outcome (List ℕ)) (os : List ℕ) : Type 0 where
+  pub source : List ℕ
+  pub destination : List ℕ
+  pub source-written : s ≡ accepted source
+  pub destination-written : d ≡ accepted destination
+  pub reads : readMessage os ≡ accepted (record { type = m; params = ps source destination })
+
+pub addressed-reads :
+    (m : MessageType) (ps : (source destination : List ℕ) → List Param) (s d : Outcome (List ℕ)) (os : List ℕ)
+    → after s (λ source. after d (λ destination. written m (ps source destination))) ≡ accepted os
+    → ReadsWith m ps s d os
+addressed-reads m ps s d os e =
+    let (w, hw, e1) = after-inv s _ e in
+    let (v, hv, e2) = after-inv d _ e1 in
+    record { source = w; destination = v; source-written = hw; destination-written = hv; reads = constructed-reads m (ps w v) os e2 }
+
+-- A message that was read into a table: the records are its parameters.
+pub listed-params :
+    (xs : List ℕ) (m : Message) (t : Table) (r : SuaMessage)
+    → readMessage xs ≡ accepted m
+    → listMessage xs t .answer ≡ accepted r
+    → records xs (listMessage xs t .table) (r .count) ≡ accepted (m .params)
+unfolding readMessage listMessage messagePlaces
+listed-params xs m t r e a =
+    let (h, hh, e1) = after-inv (readHeader xs) _ e in
+    let (qs, hq, j) = mapped-inv _ (parameters (drop 8 xs)) e1 in
+    let (ps, hp, k) = mapped-inv (map (valued xs)) (places xs 8) (places-parameters xs 8 ∙ hq) in
+    let whole : after (readHeader xs) (λ h. places xs 8) ≡ accepted ps = ap (λ (o : Outcome _). after o (λ h. places xs 8)) hh ∙ hp in
+    let (h2, hh2, a1) = after-inv (readHeader xs) _ a in
+    let (n, hn, same) = mapped-inv _ (tabulate (after (readHeader xs) (λ h. places xs 8)) t .answer) a1 in
+    let s = tabulate (after (readHeader xs) (λ h. places xs 8)) t in
+    let stored = stored-records xs ps t (s .table) n (places-inside xs 8 ps hp) (sym (ap (λ (o : Outcome ℕ). record { answer = o; table = s .table }) hn) ∙ ap (λ (o : Outcome (List Place)). tabulate o t) whole) in
+    let count : r .count ≡ n = sym (ap (λ (r : SuaMessage). r .count) same) in
+    ap (records xs (s .table)) (count ∙ stored .count) ∙ stored .params ∙ ap accepted (k ∙ ap (λ (m : Message). m .params) j)
+
+-- The first of a list's parameters with a tag, read.
+abbrev pub readFirst : {A : Type 0} → (List ℕ → Option A) → (tag : ℕ) → List Param → Option A
+readFirst read tag [] = none
+readFirst read tag (p ∷ ps) = pick (eqb (p .tag) tag) (read (p .value)) (readFirst read tag ps)
+
+row-first : {A : Type 0} (read : List ℕ → Option A) (tag : ℕ) (values : List ℕ) (ps : List Place) → readAt read values (firstWith tag ps) ≡ readFirst read tag (map (valued values) ps)
+row-first read tag values [] = refl
+row-first {A} read tag values (p ∷ ps) = go (eqb (p .tag) tag) (row-first read tag values ps)
+  where
+    go :
+        (b : Bool)
+        → readAt read values (firstWith tag ps) ≡ readFirst read tag (map (valued values) ps)
+        → readAt read values (pick b (some p) (firstWith tag ps)) ≡ pick b (read (valued values p .value)) (readFirst read tag (map (valued values) ps))
+    go true e = refl
+    go false e = e
+
+pub first-of :
+    {A : Type 0} (read : List ℕ → Option A) (tag : ℕ) (values : List ℕ) (t : Table) (count : ℕ) (ps : List Param)
+    → records values t count ≡ accepted ps
+    → firstRead read tag values t count ≡ accepted (readFirst read tag ps)
+unfolding firstRead findParam
+first-of read tag values t count ps e =
+    let k = held values (t .tags) (t .starts) (t .lengths) count ps e in
+    let rs = firstRows (t .tags) (t .starts) (t .lengths) count in
+    let same : map (valued values) rs ≡ ps = accepted-inj (sym (k .known) ∙ e) in
+    ap (λ (o : Outcome (List Param)). mapped (readAt read values) (after o (λ ps. accepted (firstWith tag rs)))) e
+    ∙ ap accepted (row-first read tag values rs ∙ ap (readFirst read tag) same)
+
+-- What a first parameter shows is its value.
+shown-value : (values : List ℕ) (o : Outcome (Option Place)) (v : List ℕ) → mapped (readAt some values) o ≡ accepted (some v) → shown values o ≡ v
+shown-value values (accepted (some p)) v e = cc
+shown-value values (accepted none) v e = let z : _≡_ {A = ℕ} 0 1 = cc in absurd (omega arith)
+shown-value values (refused n vs) v e = let z : _≡_ {A = ℕ} 0 1 = cc in absurd (omega arith)
+
+-- The arguments of a CLDT, by the accessors' definitions; s and d are the octets of its addresses.
+pub record CldtBack (context class : ℕ) (s d : List ℕ) (sequence : ℕ) (hasHop : Bool) (hop : ℕ) (octets values : List ℕ) (t : Table) (count : ℕ) : Type 0 where
+  pub context-back : routingContext values t count ≡ accepted (some context)
+  pub class-back : protocolClass values t count ≡ accepted (some class)
+  pub source-back : firstRead some 0x0102 values t count ≡ accepted (some s)
+  pub destination-back : firstRead some 0x0103 values t count ≡ accepted (some d)
+  pub sequence-back : sequenceControl values t count ≡ accepted (some sequence)
+  pub hop-back : ss7HopCount values t count ≡ accepted (flagged hasHop hop)
+  pub data-back : dataPart values t count ≡ octets
+
+module _ (context class sequence : ℕ) (hasHop : Bool) (hop : ℕ) (octets : List ℕ) where
+  abbrev params : (s d : List ℕ) → List Param
+  params s d =
+      number 0x0006 context ∷ octet 0x0115 class ∷ param 0x0102 s ∷ param 0x0103 d ∷ number 0x0116 sequence
+      ∷ given hasHop (octet 0x0101 hop) ++ param 0x010B octets ∷ []
+
+  named :
+      (s d values : List ℕ) (t : Table) (count : ℕ)
+      → records values t count ≡ accepted (params s d)
+      → CldtBack context class s d sequence hasHop hop octets values t count
+  unfolding firstRead
+  named s d values t count e = record {
+    context-back = first-of (ofFour fourIn) 0x0006 values t count (params s d) e ∙ ap (λ (n : ℕ). accepted (some n)) (four-back context);
+    class-back = first-of (ofFour fourth) 0x0115 values t count (params s d) e;
+    source-back = first-of some 0x0102 values t count (params s d) e;
+    destination-back = first-of some 0x0103 values t count (params s d) e;
+    sequence-back = first-of (ofFour fourIn) 0x0116 values t count (params s d) e ∙ ap (λ (n : ℕ). accepted (some n)) (four-back sequence);
+    hop-back = first-of (ofFour fourth) 0x0101 values t count (params s d) e ∙ ap accepted (hops hasHop);
+    data-back = shown-value values (findParam values t count 0x010B) octets (first-of some 0x010B values t count (params s d) e ∙ ap accepted (datas hasHop));
+  }
+    where
+      hops : (b : Bool) → readFirst (ofFour fourth) 0x0101 (given b (octet 0x0101 hop) ++ param 0x010B octets ∷ []) ≡ flagged b hop
+      hops true = refl
+      hops false = refl
+
+      datas : (b : Bool) → readFirst some 0x010B (given b (octet 0x0101 hop) ++ param 0x010B octets ∷ []) ≡ some octets
+      datas true = refl
+      datas false = refl
+
+  -- What `cldt` wrote, read into any table with room: the accessors give the arguments back, and the addresses' octets.
+  pub cldt-back :
+      (source : SuaAddress) (sv : List ℕ) (st : Table) (destination : SuaAddress) (dv : List ℕ) (dt : Table) (os : List ℕ) (t : Table) (r : SuaMessage)
+      → cldt context class source sv st destination dv dt sequence hasHop hop octets ≡ accepted os
+      → listMessage os t .answer ≡ accepted r
+      → (s : List ℕ) × (d : List ℕ)
+      × (encodeAddressAs 0x0102 source sv st ≡ accepted s)
+      × (encodeAddressAs 0x0103 destination dv dt ≡ accepted d)
+      × CldtBack context class s d sequence hasHop hop octets os (listMessage os t .table) (r .count)
+  cldt-back source sv st destination dv dt os t r e a =
+      let k = addressed-reads M.Cldt params (encodeAddressAs 0x0102 source sv st) (encodeAddressAs 0x0103 destination dv dt) os e in (
+        k .source,
+        k .destination,
+        k .source-written,
+        k .destination-written,
+        named (k .source) (k .destination) os (listMessage os t .table) (r .count) (listed-params os _ t r (k .reads) a),
+      )
+
+  -- Its addresses, read from the parameters that the table has, are those that were given; capitals are read as small letters.
+  pub cldt-addresses-back :
+      (source : SuaAddress) (sv : List ℕ) (st : Table) (destination : SuaAddress) (dv : List ℕ) (dt : Table) (os : List ℕ) (t : Table) (r : SuaMessage)
+      → cldt context class source sv st destination dv dt sequence hasHop hop octets ≡ accepted os
+      → listMessage os t .answer ≡ accepted r
+      → (so to : List Param)
+      → records sv st (source .«other_count») ≡ accepted so
+      → records dv dt (destination .«other_count») ≡ accepted to
+      → All Other so
+      → All Other to
+      → (firstRead (λ v. some (readAddress builtIn v)) 0x0102 os (listMessage os t .table) (r .count) ≡ accepted (some (accepted (foldAddress (addressOf source so)))))
+      × (firstRead (λ v. some (readAddress builtIn v)) 0x0103 os (listMessage os t .table) (r .count) ≡ accepted (some (accepted (foldAddress (addressOf destination to)))))
+  cldt-addresses-back source sv st destination dv dt os t r e a so to hs hd ks kd =
+      let k = addressed-reads M.Cldt params (encodeAddressAs 0x0102 source sv st) (encodeAddressAs 0x0103 destination dv dt) os e in
+      let ps = params (k .source) (k .destination) in
+      let rs = listed-params os _ t r (k .reads) a in (
+        first-of (λ v. some (readAddress builtIn v)) 0x0102 os (listMessage os t .table) (r .count) ps rs
+            ∙ ap (λ (o : Outcome Address). accepted (some o)) (given-back 0x0102 source sv st so (k .source) hs ks (k .source-written)),
+        first-of (λ v. some (readAddress builtIn v)) 0x0103 os (listMessage os t .table) (r .count) ps rs
+            ∙ ap (λ (o : Outcome Address). accepted (some o)) (given-back 0x0103 destination dv dt to (k .destination) hd kd (k .destination-written)),
+      )

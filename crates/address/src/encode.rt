@@ -179,7 +179,8 @@ impl SuaAddress {
     ) -> Counted
         ensures { λ r. ⌜
             delivered (countedOf r) (now (out .exit))
-            ≡ deliver (encodeAddressAs tag self (now (values .entry)) (table (now (tags .entry)) (now (starts .entry)) (now (lengths .entry))))
+            ≡ deliver
+            (encodeAddressAs tag self (now (values .entry)) (table (now (tags .entry)) (now (starts .entry)) (now (lengths .entry))))
             (now (out .entry)) ⌝ }
     {
         match encoded_length(tag, self, values, tags, starts, lengths) {

@@ -16,7 +16,8 @@ use Rattle.parameter.specs.Parameter.{twoAt, fourIn, numberIn}
 use Rattle.parameter.specs.Walk.{valued}
 use Rattle.parameter.specs.Table.{Table, records, firstWith, findParam}
 use Rattle.parameter.proofs.Records.{firstRows, held, value-length}
-use Rattle.message.specs.Accessors.{ofFour, readAt, firstRead, fourth, causeIn, fourthOctet, causeOctets}
+use Rattle.message.specs.Accessors.{ofFour, readAt, firstRead, fourth, causeIn}
+use Rattle.message.specs.Steps.Octets.{fourthOctet, causeOctets}
 
 first-all : (P : Place → Type 0) (tag : ℕ) (ps : List Place) (p : Place) → All P ps → firstWith tag ps ≡ some p → P p
 first-all P tag [] p h e = let z : _≡_ {A = ℕ} 0 1 = cc in absurd (omega arith)

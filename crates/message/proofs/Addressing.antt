@@ -9,7 +9,7 @@ use borrow.Rule.Slice.PartMut.{midOf, putMid}
 use Rattle.bcd.specs.Outcome.{Outcome, accepted, refused, after, mapped, each, deliver}
 use Rattle.bcd.proofs.Outcomes.{accepted-inj, after-inv, mapped-inv, each-inv, deliver-answer}
 use Rattle.bcd.proofs.Writing.{delivered}
-use Rattle.parameter.specs.Parameter.{Param, four, paddedLength, mostValue, paramOctets, encodeParam, writable, frameParam}
+use Rattle.parameter.specs.Parameter.{Param, four, paddedLength, mostValue, paramOctets, encodeParam, writable, frameParam, param}
 use Rattle.parameter.specs.Table.{Table}
 use Rattle.parameter.proofs.RoundTrip.{octets-length}
 use Rattle.parameter.proofs.Encoding.{encode-within}
@@ -19,8 +19,8 @@ use Rattle.address.proofs.Encoding.{given-known}
 use Rattle.message.specs.declared.types.MessageType.{MessageType}
 use Rattle.message.specs.declared.types.MessageType.the-variants as M
 use Rattle.message.specs.declared.parts.Part.the-variants as P
-use Rattle.message.specs.Constructors.{written, param, number, given, cldt, cldr}
-use Rattle.message.specs.ConstructorParts.{runParams, Placeable, addressed, connectionless}
+use Rattle.message.specs.Constructors.{written, number, given, cldt, cldr}
+use Rattle.message.specs.Steps.Parts.{runParams, Placeable, addressed, connectionless}
 use Rattle.message.proofs.Listing.{framed, written-framed}
 use Rattle.message.proofs.Placing.{each-joined, written-small, Three, lent-length, in-place}
 

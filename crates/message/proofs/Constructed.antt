@@ -11,7 +11,7 @@ use Rattle.bcd.specs.Outcome.{Outcome, accepted, refused, pick, after, mapped, 
 use Rattle.bcd.specs.Digits.{builtIn}
 use Rattle.bcd.proofs.Outcomes.{accepted-inj, after-inv, mapped-inv}
 use Rattle.parameter.specs.declared.Place.{Place}
-use Rattle.parameter.specs.Parameter.{Param, fourIn}
+use Rattle.parameter.specs.Parameter.{Param, fourIn, param}
 use Rattle.parameter.specs.Walk.{places, valued, parameters}
 use Rattle.parameter.specs.Table.{Table, Tabulated, tabulate, records, firstWith, findParam}
 use Rattle.parameter.proofs.Structure.{places-parameters}
@@ -23,12 +23,12 @@ use Rattle.address.specs.Records.{flagged, addressOf}
 use Rattle.address.specs.declared.SuaAddress.{SuaAddress}
 use Rattle.address.specs.Given.{encodeAddressAs}
 use Rattle.message.specs.declared.SuaMessage.{SuaMessage}
-use Rattle.message.specs.declared.header.MessageType.{MessageType}
-use Rattle.message.specs.declared.header.MessageType.the-variants as M
+use Rattle.message.specs.declared.types.MessageType.{MessageType}
+use Rattle.message.specs.declared.types.MessageType.the-variants as M
 use Rattle.message.specs.Message.{Message, readHeader, readMessage, messagePlaces}
 use Rattle.message.specs.Listing.{Listed, listMessage}
 use Rattle.message.specs.Accessors.{ofFour, readAt, firstRead, fourth, routingContext, protocolClass, sequenceControl, ss7HopCount, shown, dataPart}
-use Rattle.message.specs.Constructors.{written, param, number, octet, given, cldt}
+use Rattle.message.specs.Constructors.{written, number, octet, given, cldt}
 use Rattle.message.proofs.Messages.{written-reads}
 use Rattle.message.proofs.GivenBack.{four-back, Other, foldAddress, given-back}
 

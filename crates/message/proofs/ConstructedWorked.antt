@@ -9,7 +9,7 @@ use Rattle.parameter.specs.Table.{Table, table, room, rows, records}
 use Rattle.address.specs.Address.{pieces, indicator, subParam, writeAddress}
 use Rattle.address.specs.Records.{withSsnPc}
 use Rattle.address.specs.Given.{encodeAddressAs}
-use Rattle.message.specs.declared.header.MessageType.the-variants as M
+use Rattle.message.specs.declared.types.MessageType.the-variants as M
 use Rattle.message.specs.Message.{messageOctets, writeMessage}
 use Rattle.message.specs.PointCodes.{codesOctets}
 use Rattle.message.specs.Constructors.{cldt, errorMessage, snm}

@@ -13,7 +13,7 @@ use Rattle.parameter.specs.Parameter.{writable}
 use Rattle.message.specs.declared.types.MessageType.{MessageType}
 use Rattle.message.specs.declared.header.CommonHeader.{CommonHeader}
 use Rattle.message.specs.Message.{headerWith, headerOctets, writeHeader}
-use Rattle.message.specs.ConstructorParts.{Placeable}
+use Rattle.message.specs.Steps.Parts.{Placeable}
 use Rattle.message.proofs.Listing.{framed, framed-length}
 use Rattle.message.proofs.Placing.{placed-behind, wrote}
 

@@ -9,13 +9,13 @@ use borrow.Rule.Slice.PartMut.{midOf, putMid}
 use Rattle.bcd.specs.Outcome.{Outcome, accepted, refused, after, mapped, each, All, deliver}
 use Rattle.bcd.proofs.Outcomes.{accepted-inj, mapped-inv, each-inv, each-split, deliver-buffer, deliver-answer}
 use Rattle.bcd.proofs.Writing.{Begun, begin, extend, untouched, delivered}
-use Rattle.parameter.specs.Parameter.{Param, four, paddedLength, mostValue, paramOctets, runLength, encodeParam, wireLength, frameParam}
+use Rattle.parameter.specs.Parameter.{Param, four, paddedLength, mostValue, paramOctets, runLength, encodeParam, wireLength, frameParam, param}
 use Rattle.parameter.proofs.RoundTrip.{octets-length, run-length, Sized, encode-inv}
 use Rattle.parameter.proofs.Encoding.{wire-encode, wire-within, encode-within}
 use Rattle.parameter.proofs.InPlace.{framed-there}
 use Rattle.message.specs.PointCodes.{codesOctets, packCodes}
-use Rattle.message.specs.Constructors.{param, number, given, affected}
-use Rattle.message.specs.ConstructorParts.{partParams, runParams, Placeable}
+use Rattle.message.specs.Constructors.{number, given, affected}
+use Rattle.message.specs.Steps.Parts.{partParams, runParams, Placeable}
 use Rattle.message.specs.declared.parts.Part.{Part}
 use Rattle.message.specs.declared.parts.Part.the-variants as P
 use Rattle.message.proofs.PointCodes.{codes-length, pack-few}

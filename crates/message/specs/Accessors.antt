@@ -104,13 +104,6 @@ sourceAddress values t count = addressFound 0x0102 values (findParam values t co
 abbrev pub destinationAddress : List ℕ → Table → (count : ℕ) → Table → Listed
 destinationAddress values t count = addressFound 0x0103 values (findParam values t count 0x0103)
 
--- The fourth octet of a 32-bit number, and the third and the fourth: steps of the code.
-abbrev pub fourthOctet : ℕ → ℕ
-fourthOctet n = n % 256
-
-abbrev pub causeOctets : ℕ → SccpCause
-causeOctets n = record { «cause_type» = n / 256 % 256; «cause_value» = n % 256 }
-
 -- Which outcome each answer is.
 abbrev pub octetOf : Octet → Outcome (Option ℕ)
 octetOf (O.Value n) = accepted (some n)

@@ -4,22 +4,19 @@ use Prim.Native.Nat.{ℕ}
 use mathlib.Core.Bool.{Bool}
 use mathlib.Core.List.{List, [], _∷_, _++_}
 use Rattle.bcd.specs.Outcome.{Outcome, pick, after}
-use Rattle.parameter.specs.Parameter.{Param, four}
+use Rattle.parameter.specs.Parameter.{Param, param, four}
 use Rattle.parameter.specs.Table.{Table}
 use Rattle.address.specs.declared.SuaAddress.{SuaAddress}
 use Rattle.address.specs.Given.{encodeAddressAs}
 use Rattle.message.specs.declared.types.MessageType.{MessageType}
 use Rattle.message.specs.declared.types.MessageType.the-variants as M
-use Rattle.message.specs.Message.{writeMessage}
+use Rattle.message.specs.Message.{message, writeMessage}
 use Rattle.message.specs.PointCodes.{codesOctets}
 
 abbrev pub written : MessageType → List Param → Outcome (List ℕ)
-written m ps = writeMessage (record { type = m; params = ps })
+written m ps = writeMessage (message m ps)
 
--- A parameter of a tag and octets, of a 32-bit number, and of three reserved octets and one of value (RFC 3868, 3.9, 3.10).
-abbrev pub param : (tag : ℕ) → (value : List ℕ) → Param
-param tag value = record { tag = tag; value = value }
-
+-- A parameter of a 32-bit number, and of three reserved octets and one of value (RFC 3868, 3.9, 3.10).
 abbrev pub number : (tag n : ℕ) → Param
 number tag n = param tag (four n)
 

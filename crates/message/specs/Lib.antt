@@ -1,4 +1,4 @@
--- The definitions, in the order to read them.
+-- The definitions, in the order to read them. `Steps` holds what only contracts of private functions cite.
 pub mod Types
 pub mod Message
 pub mod Listing
@@ -6,4 +6,4 @@ pub mod Standing
 pub mod PointCodes
 pub mod Accessors
 pub mod Constructors
-pub mod ConstructorParts
+pub mod Steps

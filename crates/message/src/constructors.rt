@@ -22,7 +22,7 @@ ghost use Rattle.address.specs.Given.{encodeAddressAs};
 ghost use Rattle.message.specs.declared.types.MessageType.the-variants as M;
 ghost use Rattle.message.specs.Constructors.{written, aspUp, infoOnly, trafficAndRc, rcOnly, heartbeatLike};
 ghost use Rattle.message.specs.Constructors.{errorMessage, notify, snm, cldt, cldr};
-ghost use Rattle.message.specs.ConstructorParts.{runParams, connectionless};
+ghost use Rattle.message.specs.Steps.Parts.{runParams, connectionless};
 
 // The SS7 hop counter that a CLDT starts with (RFC 3868, 3.10.1).
 pub const DEFAULT_HOP_COUNTER: u8 = 15;

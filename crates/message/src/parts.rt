@@ -17,7 +17,7 @@ ghost use Rattle.parameter.specs.Parameter.{encodeParam};
 ghost use Rattle.parameter.specs.Table.{table};
 ghost use Rattle.address.specs.Given.{encodeAddressAs};
 ghost use Rattle.message.specs.Constructors.{number};
-ghost use Rattle.message.specs.ConstructorParts.{partParams, runParams, runWritten, Placeable, addressParam, addressed};
+ghost use Rattle.message.specs.Steps.Parts.{partParams, runParams, runWritten, Placeable, addressParam, addressed};
 
 // A part of a message: nothing; a tag and a number, if given; a tag for the octets lent beside it, if given; or the point
 // codes lent beside it.

@@ -6,7 +6,8 @@ use borrow.Author.Needs.{needs}
 use Rattle.bcd.specs.Outcome.{Outcome, mapped}
 use Rattle.bcd.proofs.Outcomes.{octets-of}
 use Rattle.parameter.specs.Table.{table}
-use Rattle.message.specs.Accessors.{fourthOctet, fourth}
+use Rattle.message.specs.Accessors.{fourth}
+use Rattle.message.specs.Steps.Octets.{fourthOctet}
 use Rattle.message.proofs.Accessing.{four-then, fourth-of}
 use Rattle.message.proofs.SuaMessage.protocol_class.Statement.{statement}
 use Rattle.message.proofs.SuaMessage.protocol_class.Tie as tie

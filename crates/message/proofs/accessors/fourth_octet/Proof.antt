@@ -5,7 +5,7 @@ use borrow.Author.Needs.{needs}
 use Rattle.bcd.specs.Outcome.{mapped}
 use Rattle.parameter.specs.declared.Number.{Number}
 use Rattle.parameter.specs.Answers.{numberOf}
-use Rattle.message.specs.Accessors.{fourthOctet}
+use Rattle.message.specs.Steps.Octets.{fourthOctet}
 use Rattle.message.proofs.accessors.fourth_octet.Statement.{statement}
 use Rattle.message.proofs.accessors.fourth_octet.Tie as tie
 

@@ -5,7 +5,7 @@ use borrow.Author.Needs.{needs}
 use Rattle.bcd.specs.Outcome.{mapped}
 use Rattle.parameter.specs.declared.Number.{Number}
 use Rattle.parameter.specs.Answers.{numberOf}
-use Rattle.message.specs.Accessors.{causeOctets}
+use Rattle.message.specs.Steps.Octets.{causeOctets}
 use Rattle.message.proofs.accessors.last_octets.Statement.{statement}
 use Rattle.message.proofs.accessors.last_octets.Tie as tie
 

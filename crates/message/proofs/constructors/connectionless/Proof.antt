@@ -13,7 +13,7 @@ use Rattle.parameter.specs.Table.{table}
 use Rattle.address.specs.Given.{encodeAddressAs}
 use Rattle.message.specs.Message.{headerOctets}
 use Rattle.message.specs.Constructors.{number}
-use Rattle.message.specs.ConstructorParts.{runParams, addressed, connectionless}
+use Rattle.message.specs.Steps.Parts.{runParams, addressed, connectionless}
 use Rattle.message.proofs.Listing.{framed}
 use Rattle.message.proofs.Placing.{run-few, placed-behind, Wrote, wrote}
 use Rattle.message.proofs.Constructing.{made-refused, Made, made, headed, made-short, made-ready, made-done}

@@ -9,7 +9,7 @@ use Rattle.bcd.specs.Answers.{countedOf}
 use Rattle.bcd.specs.declared.error.Counted.{Counted}
 use Rattle.parameter.specs.Parameter.{Param}
 use Rattle.message.specs.Constructors.{written}
-use Rattle.message.specs.ConstructorParts.{runParams, runWritten}
+use Rattle.message.specs.Steps.Parts.{runParams, runWritten}
 use Rattle.message.proofs.Listing.{written-framed}
 use Rattle.message.proofs.Placing.{run-bounded}
 use Rattle.message.proofs.Constructing.{made-refused, Made, made, headed, made-short, made-ready, made-done}

@@ -10,7 +10,7 @@ use Rattle.bcd.specs.declared.error.Counted.{Counted}
 use Rattle.parameter.specs.Parameter.{Param, mostValue, encodeParam}
 use Rattle.parameter.specs.Table.{table}
 use Rattle.address.specs.Given.{encodeAddressAs}
-use Rattle.message.specs.ConstructorParts.{runParams}
+use Rattle.message.specs.Steps.Parts.{runParams}
 use Rattle.message.proofs.Placing.{run-bounded}
 use Rattle.message.proofs.Addressing.{Small, address-small, counted-small, addressed-sum}
 use borrow.Author.Needs.{needs}

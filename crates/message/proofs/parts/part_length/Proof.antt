@@ -4,7 +4,7 @@ use mathlib.Core.Path.{_≡_, refl, sym, ap, _∙_}
 use lib.ListN.{length}
 use Rattle.bcd.specs.Outcome.{Outcome, mapped, each}
 use Rattle.parameter.specs.Parameter.{encodeParam}
-use Rattle.message.specs.ConstructorParts.{partParams}
+use Rattle.message.specs.Steps.Parts.{partParams}
 use Rattle.message.specs.declared.parts.Part.{Part}
 use Rattle.message.proofs.Placing.{number-length, number-none, octets-taken, octets-none, codes-taken}
 use borrow.Author.Needs.{needs}

@@ -5,7 +5,7 @@ use native.Mathlib.Omega.{arith}
 use lib.ListN.{length}
 use Rattle.bcd.specs.Outcome.{Delivered, each, deliver}
 use Rattle.parameter.specs.Parameter.{encodeParam}
-use Rattle.message.specs.ConstructorParts.{partParams, Placeable}
+use Rattle.message.specs.Steps.Parts.{partParams, Placeable}
 use Rattle.message.specs.declared.parts.Part.{Part}
 use Rattle.message.proofs.Placing.{none-put, number-put, number-absent, octets-put, octets-absent, codes-roomy, codes-put}
 use borrow.Author.Needs.{needs}

@@ -8,7 +8,7 @@ use Rattle.bcd.specs.Outcome.{Outcome, accepted, mapped, each}
 use Rattle.bcd.specs.Answers.{countedOf}
 use Rattle.bcd.specs.declared.error.Counted.{Counted}
 use Rattle.parameter.specs.Parameter.{Param, encodeParam}
-use Rattle.message.specs.ConstructorParts.{partParams}
+use Rattle.message.specs.Steps.Parts.{partParams}
 use Rattle.message.specs.declared.parts.Part.{Part}
 use Rattle.message.proofs.Placing.{part-small, run-sum}
 use borrow.Author.Needs.{needs}

@@ -11,7 +11,7 @@ use Rattle.bcd.proofs.Writing.{delivered}
 use Rattle.parameter.specs.Parameter.{Param, encodeParam}
 use Rattle.parameter.specs.Table.{table}
 use Rattle.address.specs.Given.{encodeAddressAs}
-use Rattle.message.specs.ConstructorParts.{runParams, addressed}
+use Rattle.message.specs.Steps.Parts.{runParams, addressed}
 use Rattle.message.proofs.Placing.{Three, placed-behind, WroteFirst, wrote-first, Wrote, wrote}
 use Rattle.message.proofs.Addressing.{Small, address-small, asParam, three-addressed}
 use borrow.Author.Needs.{needs}

@@ -9,7 +9,7 @@ use Rattle.bcd.specs.Outcome.{Outcome, accepted, each, deliver}
 use Rattle.bcd.proofs.Outcomes.{accepted-inj}
 use Rattle.bcd.proofs.Writing.{delivered}
 use Rattle.parameter.specs.Parameter.{Param, encodeParam}
-use Rattle.message.specs.ConstructorParts.{partParams, runWritten}
+use Rattle.message.specs.Steps.Parts.{partParams, runWritten}
 use Rattle.message.specs.declared.parts.Part.{Part}
 use Rattle.message.proofs.Placing.{Three, three-parts, placed-behind, WroteFirst, wrote-first, Wrote, wrote}
 use borrow.Author.Needs.{needs}

@@ -1,17 +1,17 @@
--- Steps of the code between the constructors and the octets: the parts of a message. No public contract cites these.
+-- The parts of a message between the constructors and the octets.
 use Prim.Native.Nat.{ℕ, _≤_}
 use mathlib.Core.Path.{_≡_}
 use mathlib.Core.List.{List, [], _∷_, _++_}
 use lib.ListN.{length}
 use Rattle.bcd.specs.Outcome.{Outcome, accepted, after, mapped, each}
-use Rattle.parameter.specs.Parameter.{Param, encodeParam}
+use Rattle.parameter.specs.Parameter.{Param, encodeParam, param}
 use Rattle.parameter.specs.Table.{Table}
 use Rattle.address.specs.declared.SuaAddress.{SuaAddress}
 use Rattle.address.specs.Given.{encodeAddressAs}
 use Rattle.message.specs.declared.types.MessageType.{MessageType}
 use Rattle.message.specs.declared.parts.Part.{Part}
 use Rattle.message.specs.declared.parts.Part.the-variants as P
-use Rattle.message.specs.Constructors.{written, param, number, given, affected}
+use Rattle.message.specs.Constructors.{written, number, given, affected}
 
 -- The parameters that a part is: none or one.
 abbrev pub partParams : Part → (octets codes : List ℕ) → List Param

@@ -1,0 +1,4 @@
+pub mod Planning
+pub mod Storing
+pub mod Filling
+pub mod Columns

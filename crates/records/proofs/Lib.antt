@@ -2,3 +2,4 @@ pub mod Planning
 pub mod Storing
 pub mod Filling
 pub mod Columns
+pub mod Reading

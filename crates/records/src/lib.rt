@@ -1,4 +1,6 @@
 // The parameter list as a lent slice of records (document 01, 'Rust forms that cannot stay').
+pub mod reader;
+
 use bcd::error::Counted;
 use bcd::error::Refusal;
 use message::MessageRead;

@@ -10,8 +10,8 @@ use Rattle.bcd.specs.Outcome.{Outcome, accepted, refused, after, mapped, pick}
 use Rattle.parameter.specs.declared.Place.{Place}
 use Rattle.parameter.specs.Table.{Table, table, room, Tabulated, tabulated, over, tabulate, rows}
 use Rattle.message.specs.Message.{readHeader, messagePlaces}
-use Rattle.message.specs.Listing.{Listed, listMessage}
-use Rattle.records.specs.Rows.{Recorded, recorded, tabulateRows, counting, listRows, columns, ofRows, ofListedRows}
+use Rattle.message.specs.Listing.{listMessage}
+use Rattle.records.specs.Rows.{recorded, tabulateRows, counting, listRows, columns, ofRows, ofListedRows}
 
 drop-map : {A B : Type 0} (f : A → B) (n : ℕ) (xs : List A) → drop n (map f xs) ≡ map f (drop n xs)
 drop-map f zero xs = refl

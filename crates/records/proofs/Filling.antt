@@ -1,4 +1,4 @@
--- What a walk that lends its slice of records to `store_rows` for good has to hand over.
+-- The call of `store_rows` in the two walks that lend it their slice of records.
 use mathlib.Core.Path.{refl}
 use Prim.Native.Nat.{ℕ, _≤_, _<_, _^_}
 use mathlib.Core.List.{List, [], _∷_}

@@ -11,7 +11,6 @@ use Rattle.bcd.specs.Outcome.{Outcome, accepted, refused, mapped, bounded, pick
 use Rattle.bcd.proofs.Outcomes.{accepted-inj, never, bounded-within}
 use Rattle.parameter.specs.declared.Place.{Place}
 use Rattle.parameter.specs.Walk.{places}
-use Rattle.message.specs.declared.SuaMessage.{SuaMessage}
 use Rattle.message.specs.declared.header.CommonHeader.{CommonHeader}
 use Rattle.message.specs.Message.{readHeader, messagePlaces}
 use Rattle.message.proofs.Listing.{header-within}

@@ -15,7 +15,7 @@ use Rattle.parameter.specs.Walk.{Walked, ended, found, onward, stepAt, steps, p
 use Rattle.message.specs.Message.{readHeader, messagePlaces}
 use Rattle.message.proofs.Listing.{header-within}
 use Rattle.records.specs.declared.Row.{Row}
-use Rattle.records.specs.Rows.{Recorded, recorded, tabulateRows, counting, ListedRows, listRows}
+use Rattle.records.specs.Rows.{Recorded, recorded, tabulateRows, counting, listRows}
 use Rattle.records.specs.steps.Storing.{rowOf, stored, Planned, planned, plannedMessage}
 use Rattle.records.proofs.Planning.{whole, short}
 

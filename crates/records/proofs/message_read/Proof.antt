@@ -1,5 +1,5 @@
 -- `records::message_read` meets its contract: an answer for the parameters becomes the message's.
-use mathlib.Core.Path.{_≡_, sym, ap}
+use mathlib.Core.Path.{sym, ap}
 use Rattle.bcd.specs.Outcome.{mapped}
 use Rattle.bcd.specs.Answers.{countedOf}
 use Rattle.bcd.specs.declared.error.Counted.{Counted}

@@ -1,5 +1,5 @@
 -- `records::plan_from` meets its contract: the count that was answered is the definition's.
-use mathlib.Core.Path.{_≡_, sym, ap, _∙_}
+use mathlib.Core.Path.{sym, ap, _∙_}
 use mathlib.Core.List.{List}
 use Rattle.bcd.specs.Outcome.{Outcome, bounded}
 use Rattle.bcd.specs.Answers.{countedOf}

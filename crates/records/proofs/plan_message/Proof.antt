@@ -1,9 +1,9 @@
 -- `records::plan_message` meets its contract: the header, then the plan for the parameters behind it.
-use mathlib.Core.Path.{_≡_, sym, ap, _∙_}
+use mathlib.Core.Path.{sym, ap, _∙_}
 use Rattle.bcd.specs.Outcome.{Outcome}
 use Rattle.message.specs.declared.SuaMessage.{SuaMessage}
 use Rattle.message.specs.Message.{headerReadOf}
-use Rattle.records.specs.steps.Storing.{Planned, planOf}
+use Rattle.records.specs.steps.Storing.{planOf}
 use Rattle.records.proofs.Planning.{message-plan-refused, message-plan-read}
 use borrow.Author.Needs.{needs}
 use Rattle.records.proofs.plan_message.Statement.{statement}

@@ -1,6 +1,6 @@
--- `records::reader::Reader::next` meets its contract: a walk of its MIR, by hand. The reader is taken apart, `step_from` is called on the octets and the position, and the step and a reader at the new position are put together.
--- The reader is Copy: what it owns is had three times, once for the callee, once for the exit, and once, with the new position's facts in the place of the old one's, inside the result.
--- Assumes nothing.
+-- `records::reader::Reader::next` meets its contract, by a walk through its MIR: `step_from` is called on the reader's octets
+-- and position, and its step is put beside a reader of the same octets at its position. A reader is Copy, so that what it
+-- owns is there three times: for the callee, at exit, and, with the new position, in the result.
 use mathlib.Core.Path.{_≡_, refl, ap}
 use Prim.Native.Nat.{ℕ, _<_, _^_}
 use mathlib.Core.List.{[], _∷_}
@@ -68,7 +68,7 @@ use Rattle.records.proofs.reader.Reader.next as next
 use Rattle.records.proofs.reader.Reader.next.Statement as stated
 use Rattle.records.proofs.reader.Reader.next.Code as code
 
--- the struct's type, over the signature's lifetimes
+-- the type of a reader
 abbrev B : Lfts 1 → RattleType
 B κs = T.the-row (namedLft 1 0 tt κs)
 
@@ -76,7 +76,7 @@ abbrev stayed : Stays (next.ended .signature .params) (next.ended .kept)
 stayed = (stay-none B yes, tt)
 
 module _ {M : Type 1} (𝓤 : URA M) (H : Heap 𝓤) (A : Atoms 𝓤) (mem : Memory → SProp 𝓤) (run : Routine → Fun 𝓤) where
-  -- the contract that the proof cites
+  -- the contract of `step_from`
   abbrev StepFrom : Contract 𝓤
   StepFrom = tripleOf 𝓤 H A step.signature (step.spec 𝓤 H A mem run)
 
@@ -84,7 +84,7 @@ module _ {M : Type 1} (𝓤 : URA M) (H : Heap 𝓤) (A : Atoms 𝓤) (W : Given
   abbrev mach : Val
   mach = T′.lowered d
 
-  -- the machine value of bytes
+  -- the octets as a machine value
   abbrev v : Val
   v = sliceVal (d .bytes .ptr) (length (d .bytes .now))
 
@@ -97,7 +97,7 @@ module _ {M : Type 1} (𝓤 : URA M) (H : Heap 𝓤) (A : Atoms 𝓤) (W : Given
   abbrev Own : Fml
   Own = B (κ, tt) .own d (mach ∷ [])
 
-  -- the structs' types and laws, and d's fields' values
+  -- the structs' declarations and laws, and the reader's fields
   abbrev D : Declared
   D = T.the-type (namedLft 1 0 tt (κ, tt))
 
@@ -113,7 +113,7 @@ module _ {M : Type 1} (𝓤 : URA M) (H : Heap 𝓤) (A : Atoms 𝓤) (W : Given
   abbrev vd : Values (D .parts)
   vd = (d .bytes, (d .at, tt))
 
-  -- ---- the call of `step_from`
+  -- the call of `step_from`
   abbrev passed : Vals step.signature (κ, tt)
   passed = (v ∷ [], (vint w64 (d .at) ∷ [], tt))
 
@@ -123,7 +123,7 @@ module _ {M : Type 1} (𝓤 : URA M) (H : Heap 𝓤) (A : Atoms 𝓤) (W : Given
   asked : ent 𝓤 (onEntry 𝓤 H A step.signature (κ, tt) (q, tt) (d .bytes, (d .at, tt)) passed) (StepFrom 𝓤 H A mem run .pre to)
   asked = qed W ((‵ (flft κ q) ⊛ ‵ ftrue) ∷ ‵ (owns (ShrSlice (named 0) κ u8 ∷ usize ∷ []) (d .bytes, (d .at, tt)) passed) ∷ []) ∵ join ! $ frame ! $ done !
 
-  -- what the struct owns gives what the callee asks, and is kept
+  -- what the reader owns serves the call, and is still there
   apart : d .at < 2 ^ 64 → ent 𝓤 (onEntry 𝓤 H A next.signature (κ, tt) (q, tt) (d, tt) (mach ∷ [], tt)) (sep 𝓤 (StepFrom 𝓤 H A mem run .pre to) (sem 𝓤 H A Own))
   apart fits =
       qed W ((‵ (flft κ q) ⊛ ‵ ftrue) ∷ ‵ (owns (B (κ, tt) ∷ []) (d, tt) (mach ∷ [], tt)) ∷ []) ∵
@@ -139,7 +139,7 @@ module _ {M : Type 1} (𝓤 : URA M) (H : Heap 𝓤) (A : Atoms 𝓤) (W : Given
   said : (r : Forward) → ent 𝓤 (ensured 𝓤 H A step.ended (step.clauses 𝓤 H A mem run) (κ, tt) (d .bytes, (d .at, tt)) tt r) (fact 𝓤 (Said r))
   said r = exE 𝓤 _ (λ ws. snd∗ 𝓤 (sem 𝓤 H A (lasts step.ended (κ, tt) (d .bytes, (d .at, tt)) ws)) (fact 𝓤 (Said r)))
 
-  -- ---- the result
+  -- the result
   module _ (r : Forward) (u : Val) (is : Is F.the-row r (u ∷ [])) where
     abbrev moved : Reader
     moved = record { bytes = d .bytes; at = r .at }
@@ -158,7 +158,7 @@ module _ {M : Type 1} (𝓤 : URA M) (H : Heap 𝓤) (A : Atoms 𝓤) (W : Given
         qed W ((‵ (flft κ q) ⊛ ‵ ftrue) ∷ ‵ Own ∷ []) ∵
         suffices ! _ (ends-at 𝓤 H A next.ended stayed (next.clauses 𝓤 H A mem run) W (((κ, tt), (q, tt), tt, (d, tt), (mach ∷ [], tt)), tt) (LL.val DX LX made) made (tt, tt) (tt, tt)) $ says ! (e .0, ap (λ (n : ℕ). record { bytes = d .bytes; at = n }) (e .1)) $ frame ! $
         use1 W (‵ Own ⊛ ‵ Own) (LL.copy D (T′.the-copy (namedLft 1 0 tt (κ, tt))) 𝓤 H A W .twice d (mach ∷ [])) $ split ! $ nothing ! $ move ! (1 ∷ 0 ∷ []) $ fjoin ! $ frame ! $
-        -- [what the reader owns]: the new position's facts take the place of the old one's
+        -- [what the reader owns]: the new position in the place of the old one
         owned ! usize (Is usize) (uint-makes 𝓤 H A W w64) (r .at) _ (refl, at-fits) $ move ! (1 ∷ 0 ∷ []) $ use2 W (‵ (B (κ, tt) .own moved (T′.lowered moved ∷ []))) (own-put 𝓤 H A W D L 1 vd (r .at) mach) $
         nothing ! $ move ! (1 ∷ 0 ∷ []) $ fjoin ! $ owned ! S.the-row (Is S.the-row) ((EL.makes S.the-type S′.the-plain) 𝓤 H A) (r .step) _ (LL.owed F.the-type F′.the-laws r _ is .0) $ fjoin ! $ by ! (own-shut 𝓤 H A W DX LX (r .step, (moved, tt)))
 

@@ -1,6 +1,6 @@
--- `records::reader::Reader::open` meets its contract: a walk of its MIR, by hand. `start_of` is called on the octets, and a reader at the position that it gives and the header are put together.
--- A `&[u8]` is Copy: what it owns is had three times, once for the callee, once for bytes at exit, and once inside the result.
--- Assumes nothing.
+-- `records::reader::Reader::open` meets its contract, by a walk through its MIR: `start_of` is called on the octets, and its
+-- header is put beside a reader of the octets at its position. The octets are lent by `&`, so that what they own is there
+-- three times: for the callee, at exit, and in the result.
 use mathlib.Core.Path.{_≡_, refl, ap}
 use Prim.Native.Nat.{ℕ, _<_, _^_}
 use mathlib.Core.List.{List, [], _∷_}
@@ -21,7 +21,7 @@ use types.Kit.{Given, ‵, raw, _⊛_, ⋆, some, later, _$_, _∵_, !, qed, by,
 use types.Part.{whole, sub, look-in, agg}
 use types.Run.{look, init, forget, stop, fld, from, load, and-then, no-more, assigns, land, returns, enter, alloc1, alloc0, params1, pass1, pass0, free1, free0}
 use sound.WpLaws.{FmC, fmOf, WpFn-mono}
-use denote.RattleType.{RattleType, owns}
+use denote.RattleType.{owns}
 use denote.Laws.{Is, shows}
 use denote.Plain.{uint-makes}
 use denote.Builtin.{u8, usize}
@@ -41,8 +41,6 @@ use denote.Triple.Table.{entered, cited}
 use denote.Triple.Clauses.{ensured, lasts}
 use denote.Triple.Walked.{says, Stays, stay-none-slice, walkOf, goes-none-slice, Walks, ends-at, walked, walk-meets}
 use denote.Exit.{yes}
-use Rattle.bcd.specs.Outcome.{Outcome}
-use Rattle.message.specs.declared.header.CommonHeader.{CommonHeader}
 use Rattle.message.specs.Message.{readHeader, headerReadOf}
 use Rattle.message.proofs.header.HeaderRead as K
 use Rattle.message.proofs.header.HeaderRead.Laws as K′
@@ -69,7 +67,7 @@ abbrev stayed : Stays (opening.ended .signature .params) (opening.ended .kept)
 stayed = (stay-none-slice (0 ∷ []) tt (plain (λ _. u8)) yes, tt)
 
 module _ {M : Type 1} (𝓤 : URA M) (H : Heap 𝓤) (A : Atoms 𝓤) (mem : Memory → SProp 𝓤) (run : Routine → Fun 𝓤) where
-  -- the contract that the proof cites
+  -- the contract of `start_of`
   abbrev StartOf : Contract 𝓤
   StartOf = tripleOf 𝓤 H A start-of.signature (start-of.spec 𝓤 H A mem run)
 
@@ -77,14 +75,14 @@ module _ {M : Type 1} (𝓤 : URA M) (H : Heap 𝓤) (A : Atoms 𝓤) (W : Given
   abbrev α : NamedLft
   α = namedLft 1 0 tt (κ, tt)
 
-  -- the machine value that s has
+  -- the octets as a machine value
   abbrev v : Val
   v = sliceVal (s .ptr) (length (s .now))
 
   abbrev vals : List Val × Unit {0}
   vals = (v ∷ [], tt)
 
-  -- the structs' types and laws
+  -- the structs' declarations and laws
   abbrev D : Declared
   D = T.the-type α
 
@@ -103,14 +101,14 @@ module _ {M : Type 1} (𝓤 : URA M) (H : Heap 𝓤) (A : Atoms 𝓤) (W : Given
   abbrev Own : Fml
   Own = ShrSlice (named 0) κ u8 .own s (v ∷ [])
 
-  -- ---- the call of `start_of`
+  -- the call of `start_of`
   abbrev to : StartOf 𝓤 H A mem run .Ghost
   to = (((κ, tt), (q, tt), tt, (s, tt), vals), tt)
 
   asked : ent 𝓤 (onEntry 𝓤 H A start-of.signature (κ, tt) (q, tt) (s, tt) vals) (StartOf 𝓤 H A mem run .pre to)
   asked = qed W ((‵ (flft κ q) ⊛ ‵ ftrue) ∷ ‵ (owns (ShrSlice (named 0) κ u8 ∷ []) (s, tt) vals) ∷ []) ∵ join ! $ frame ! $ done !
 
-  -- what bytes owns is had by the callee, and is kept
+  -- what bytes owns serves the call, and is still there
   apart : ent 𝓤 (onEntry 𝓤 H A opening.signature (κ, tt) (q, tt) (s, tt) vals) (sep 𝓤 (StartOf 𝓤 H A mem run .pre to) (sem 𝓤 H A Own))
   apart =
       qed W ((‵ (flft κ q) ⊛ ‵ ftrue) ∷ ‵ (owns (ShrSlice (named 0) κ u8 ∷ []) (s, tt) vals) ∷ []) ∵
@@ -124,7 +122,7 @@ module _ {M : Type 1} (𝓤 : URA M) (H : Heap 𝓤) (A : Atoms 𝓤) (W : Given
   said : (r : Start) → ent 𝓤 (ensured 𝓤 H A start-of.ended (start-of.clauses 𝓤 H A mem run) (κ, tt) (s, tt) tt r) (fact 𝓤 (Said r))
   said r = exE 𝓤 _ (λ ws. snd∗ 𝓤 (sem 𝓤 H A (lasts start-of.ended (κ, tt) (s, tt) ws)) (fact 𝓤 (Said r)))
 
-  -- ---- the result
+  -- the result
   module _ (r : Start) (u : Val) (is : Is F.the-row r (u ∷ [])) where
     abbrev reader : Reader
     reader = record { bytes = s; at = r .at }
@@ -144,7 +142,7 @@ module _ {M : Type 1} (𝓤 : URA M) (H : Heap 𝓤) (A : Atoms 𝓤) (W : Given
         suffices ! _ (ends-at 𝓤 H A opening.ended stayed (opening.clauses 𝓤 H A mem run) W (((κ, tt), (q, tt), tt, (s, tt), vals), tt) (LL.val DX LX made) made (tt, tt) (tt, tt)) $
         says ! (e .0, ap (λ (n : ℕ). record { bytes = s; at = n }) (e .1)) $ frame ! $
         use1 W (‵ Own ⊛ ‵ Own) (shr-slice-copy 𝓤 H A W (named 0) κ u8 .twice s (v ∷ [])) $ split ! $ nothing ! $ move ! (1 ∷ 0 ∷ []) $ fjoin ! $ frame ! $
-        -- [what bytes owns]: with the facts of the position it is what the reader owns
+        -- [what bytes owns]: with the position, what the reader owns
         nothing ! $ owned ! usize (Is usize) (uint-makes 𝓤 H A W w64) (r .at) _ (refl, at-fits) $ fjoin ! $ move ! (1 ∷ 0 ∷ []) $ fjoin ! $
         use1 W (‵ (T.the-row α .own reader (T′.lowered reader ∷ []))) (own-shut 𝓤 H A W D L (s, (r .at, tt))) $
         nothing ! $ move ! (1 ∷ 0 ∷ []) $ fjoin ! $ owned ! K.the-row (Is K.the-row) ((EL.makes K.the-type K′.the-plain) 𝓤 H A) (r .header) _ (LL.owed F.the-type F′.the-laws r _ is .0) $ fjoin ! $

@@ -1,5 +1,4 @@
--- `records::reader::Reader::position` meets its contract: a walk of its MIR, by hand. The position is read from the struct.
--- Assumes nothing.
+-- `records::reader::Reader::position` meets its contract, by a walk through its MIR: the position is a field of the reader.
 use mathlib.Core.Path.{refl}
 use Prim.Native.Nat.{_<_, _^_}
 use mathlib.Core.List.{[], _∷_}
@@ -40,7 +39,7 @@ use Rattle.records.proofs.reader.Reader.position as position
 use Rattle.records.proofs.reader.Reader.position.Statement as stated
 use Rattle.records.proofs.reader.Reader.position.Code as code
 
--- the struct's type, over the signature's lifetimes
+-- the type of a reader
 abbrev B : Lfts 1 → RattleType
 B κs = T.the-row (namedLft 1 0 tt κs)
 

@@ -11,7 +11,7 @@ use Rattle.parameter.specs.declared.Place.{Place}
 use Rattle.parameter.specs.Table.{Table, table, room, Tabulated, tabulated, over, tabulate, rows}
 use Rattle.message.specs.Message.{readHeader, messagePlaces}
 use Rattle.message.specs.Listing.{listMessage}
-use Rattle.records.specs.Rows.{recorded, tabulateRows, counting, listRows, columns, ofRows, ofListedRows}
+use Rattle.records.specs.Rows.{recorded, tabulateRows, counting, listRows, columns, ofRows, ofMessageRows}
 
 drop-map : {A B : Type 0} (f : A → B) (n : ℕ) (xs : List A) → drop n (map f xs) ≡ map f (drop n xs)
 drop-map f zero xs = refl
@@ -49,7 +49,7 @@ rows-columns (accepted ps) held = rw (columns-room held) (on (leb (length ps) (l
     on false = refl
 
 -- The same of a message.
-pub message-rows-columns : (xs : List ℕ) (held : List Place) → listMessage xs (columns held) ≡ ofListedRows (listRows xs held)
+pub message-rows-columns : (xs : List ℕ) (held : List Place) → listMessage xs (columns held) ≡ ofMessageRows (listRows xs held)
 unfolding listMessage listRows
 message-rows-columns xs held =
     ap

@@ -76,7 +76,7 @@ all-stored xs from held ps e h =
 
 module _ (xs : List ℕ) (from : ℕ) (held : List Place) where
   -- what a plan comes to
-  abbrev done : Planned ℕ → Recorded
+  abbrev done : Planned ℕ → Recorded ℕ
   done p = recorded (p .answer) (stored (p .count) xs from 0 held)
 
   -- the answer planned and the rows stored are what the definition says
@@ -105,7 +105,7 @@ pub rows-listed :
 unfolding plannedMessage listRows
 rows-listed xs held =
     ap
-    (λ (r : Recorded). record {
+    (λ (r : Recorded ℕ). record {
       answer = after (readHeader xs) (λ h. mapped (counting (h .«message_type»)) (r .answer));
       rows = r .rows;
     })

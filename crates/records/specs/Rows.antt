@@ -12,50 +12,41 @@ use Rattle.message.specs.Message.{readHeader, messagePlaces}
 use Rattle.message.specs.Listing.{Listed}
 
 -- What a call that reads into a lent slice of records answers, and what the slice then holds.
-pub record Recorded : Type 0 where
-  pub answer : Outcome ℕ
+pub record Recorded (A : Type 0) : Type 0 where
+  pub answer : Outcome A
   pub rows : List Place
 
 -- An answer beside what the slice then holds.
-abbrev pub recorded : Outcome ℕ → List Place → Recorded
+abbrev pub recorded : {A : Type 0} → Outcome A → List Place → Recorded A
 recorded answer rows = record { answer = answer; rows = rows }
 
 -- Places that fit stand in front of what the slice held beyond them, and their number is answered. Places that do not fit
 -- are refused as 13 with the count needed, and a refusal leaves the slice as it was (document 01, 'Agreement on contracts').
-unfoldable pub tabulateRows : Outcome (List Place) → List Place → Recorded
+unfoldable pub tabulateRows : Outcome (List Place) → List Place → Recorded ℕ
 tabulateRows (refused n vs) held = recorded (refused n vs) held
 tabulateRows (accepted ps) held =
     pick (leb (length ps) (length held))
     (recorded (accepted (length ps)) (ps ++ drop (length ps) held))
     (recorded (refused 13 (length ps ∷ [])) held)
 
--- What reading a message into a lent slice of records answers, and what the slice then holds.
-pub record ListedRows : Type 0 where
-  pub answer : Outcome SuaMessage
-  pub rows : List Place
-
-abbrev pub listedRows : Outcome SuaMessage → List Place → ListedRows
-listedRows answer rows = record { answer = answer; rows = rows }
-
 -- The record of a message: its type and the number of its parameters.
 abbrev pub counting : MessageType → ℕ → SuaMessage
 counting type n = record { «message_type» = type; count = n }
 
--- The header's refusals, then 5 or 6 in wire order, then 13 (document 01, 'Order'); the record has the type that the header
--- names and the number of the places stored.
-unfoldable pub listRows : List ℕ → List Place → ListedRows
+-- Reading a message: the header's refusals, then 5 or 6 in wire order, then 13 (document 01, 'Order'); the record has the
+-- type that the header names and the number of the places stored.
+unfoldable pub listRows : List ℕ → List Place → Recorded SuaMessage
 listRows xs held =
-    let stored : Recorded = tabulateRows (messagePlaces xs) held in
-    listedRows (after (readHeader xs) (λ h. mapped (counting (h .«message_type»)) (stored .answer)))
-    (stored .rows)
+    let stored : Recorded ℕ = tabulateRows (messagePlaces xs) held in
+    recorded (after (readHeader xs) (λ h. mapped (counting (h .«message_type»)) (stored .answer))) (stored .rows)
 
 -- The three slices of numbers that hold the same as a slice of records.
 abbrev pub columns : List Place → Table
 columns ps = table (map (λ p. p .tag) ps) (map (λ p. p .start) ps) (map (λ p. p .length) ps)
 
 -- What was answered, beside the three slices of the records that the slice then holds.
-abbrev pub ofRows : Recorded → Tabulated
+abbrev pub ofRows : Recorded ℕ → Tabulated
 ofRows r = tabulated (r .answer) (columns (r .rows))
 
-abbrev pub ofListedRows : ListedRows → Listed
-ofListedRows r = record { answer = r .answer; table = columns (r .rows) }
+abbrev pub ofMessageRows : Recorded SuaMessage → Listed
+ofMessageRows r = record { answer = r .answer; table = columns (r .rows) }

@@ -18,7 +18,7 @@ ghost use Rattle.bcd.specs.Outcome.{mapped, bounded};
 ghost use Rattle.bcd.specs.Answers.{countedOf};
 ghost use Rattle.parameter.specs.Walk.{places};
 ghost use Rattle.message.specs.Listing.{messageReadOf};
-ghost use Rattle.records.specs.Rows.{recorded, tabulateRows, counting, listedRows, listRows};
+ghost use Rattle.records.specs.Rows.{recorded, tabulateRows, counting, listRows};
 ghost use Rattle.records.specs.steps.Storing.{noRow, rowAt, stored, planOf, planned, messagePlanOf, plannedMessage};
 
 // A parameter's record, and where the next parameter starts.
@@ -180,7 +180,7 @@ pub fn decode_parameters(bytes: &[u8], rows: &mut [Place]) -> Counted
 // or 6 in wire order, then 13.
 pub fn decode_message(bytes: &[u8], rows: &mut [Place]) -> MessageRead
     ensures { λ r. ⌜
-        listedRows (messageReadOf r) (now (rows .exit))
+        recorded (messageReadOf r) (now (rows .exit))
         ≡ listRows (now (bytes .entry)) (now (rows .entry)) ⌝ }
 {
     let plan = plan_message(bytes, rows.len());

@@ -44,7 +44,7 @@ use Rattle.message.specs.Listing.{messageReadOf}
 use Rattle.message.proofs.MessageRead as K
 use Rattle.message.proofs.MessageRead.Laws as K′
 use Rattle.records.specs.declared.MessagePlan.{MessagePlan}
-use Rattle.records.specs.Rows.{listedRows, listRows}
+use Rattle.records.specs.Rows.{recorded, listRows}
 use Rattle.records.specs.steps.Storing.{stored, Planned, plannedMessage, messagePlanOf}
 use Rattle.records.proofs.Planning.{message-count-fits}
 use Rattle.records.proofs.Storing.{rows-listed}
@@ -132,10 +132,10 @@ module _ {M : Type 1} (𝓤 : URA M) (H : Heap 𝓤) (A : Atoms 𝓤) (W : Given
       nothing ! $ move ! (1 ∷ 0 ∷ []) $ fjoin ! $ move ! (1 ∷ 0 ∷ []) $ fjoin ! $
       owned ! K.the-row (Is K.the-row) ((EL.makes K.the-type K′.the-plain) 𝓤 H A) (r .answer) (v ∷ []) is $ move ! (1 ∷ 0 ∷ []) $ done !
     where
-      met : listedRows (messageReadOf (r .answer)) zs ≡ listRows (x .now) (y .now)
+      met : recorded (messageReadOf (r .answer)) zs ≡ listRows (x .now) (y .now)
       met =
-          ap (listedRows (messageReadOf (r .answer))) f
-          ∙ ap (λ (p : Planned SuaMessage). listedRows (p .answer) (stored (p .count) (x .now) 8 0 (y .now))) e
+          ap (recorded (messageReadOf (r .answer))) f
+          ∙ ap (λ (p : Planned SuaMessage). recorded (p .answer) (stored (p .count) (x .now) 8 0 (y .now))) e
           ∙ rows-listed (x .now) (y .now)
 
   abbrev Fml-at : ℕ → Val → Fml

@@ -26,7 +26,7 @@ pub enum Found {
 }
 
 // How many parameters there are from a position on. 12, then 5 or 6.
-fn count(bytes: &[u8], from: usize) -> Counted
+pub fn count(bytes: &[u8], from: usize) -> Counted
     ensures { λ r. ⌜ countedOf r ≡ mapped length (bounded (now (bytes .entry)) (places (now (bytes .entry)) from)) ⌝ }
 {
     if 1048576 < bytes.len() {

@@ -24,6 +24,7 @@ use Rattle.address.proofs.Interpreted.{accepted-read}
 use Rattle.address.proofs.Tabling.{places-known}
 use Rattle.address.proofs.TableBack.{list-inv, others-inside, written-again}
 use Rattle.message.specs.Accessors.{moved, listAddressAt, addressFound}
+use Rattle.message.specs.Back.{Back}
 use Rattle.message.proofs.Accessing.{find-inside, value-octets}
 use Rattle.message.proofs.Addresses.{tabulate-fits, tabulate-small}
 
@@ -45,11 +46,11 @@ module _ (values : List ℕ) (p : Place) (inside : p .start + p .length ≤ leng
       ap (λ (l : List ℕ). record { tag = q .tag; value = l })
       (ap (take (q .length)) (sym (drop-drop (q .start) (p .start) values)) ∙ sym (part-part (q .length) (q .start) (p .length) (drop (p .start) values) (omega arith)))
 
-  values-moved : (qs : List Place) → All (λ (q : Place). q .start + q .length ≤ length v) qs → map (valued values) (map (moved (p .start)) qs) ≡ map (valued v) qs
+  pub values-moved : (qs : List Place) → All (λ (q : Place). q .start + q .length ≤ length v) qs → map (valued values) (map (moved (p .start)) qs) ≡ map (valued v) qs
   values-moved [] h = refl
   values-moved (q ∷ qs) h = ap₂ _∷_ (value-moved q (h .0)) (values-moved qs (h .1))
 
-  inside-moved :
+  pub inside-moved :
       (qs : List Place)
       → All (λ (q : Place). q .start + q .length ≤ length v) qs
       → All (λ (q : Place). q .start + q .length ≤ length values) (map (moved (p .start)) qs)
@@ -100,12 +101,7 @@ read-back values p t held r o inside e =
     written-again y values held r (l .address) (l .read) (l .recorded)
     (ap (records values held) (sym (length-map ps (moved (p .start)))) ∙ k .params ∙ ap accepted (values-moved values p inside ps (others-inside y)))
 
--- The parameter that was found, and what is written.
-pub record Back (values : List ℕ) (found : Outcome (Option Place)) (held : Table) (r : SuaAddress) : Type 0 where
-  pub place : Place
-  pub there : found ≡ accepted (some place)
-  pub written : encodeAddress r values held ≡ after (readAddress builtIn (valued values place .value)) (writeAddress builtIn 0)
-
+-- What an accessor read is written again as its reading says.
 pub written-from-accessor :
     (tag : ℕ) (values : List ℕ) (u : Table) (count : ℕ) (t held : Table) (r : SuaAddress)
     → Octets values

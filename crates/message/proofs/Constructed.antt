@@ -7,7 +7,7 @@ use mathlib.Core.List.{List, [], _∷_, _++_, map}
 use native.Mathlib.Omega.{arith}
 use lib.Dec.{eqb}
 use lib.ListN.{drop}
-use Rattle.bcd.specs.Outcome.{Outcome, accepted, refused, pick, after, mapped, All}
+use Rattle.bcd.specs.Outcome.{Outcome, accepted, refused, pick, after, mapped, All, Octets}
 use Rattle.bcd.specs.Digits.{builtIn}
 use Rattle.bcd.proofs.Outcomes.{accepted-inj, after-inv, mapped-inv}
 use Rattle.parameter.specs.declared.Place.{Place}
@@ -27,22 +27,16 @@ use Rattle.message.specs.declared.types.MessageType.{MessageType}
 use Rattle.message.specs.declared.types.MessageType.the-variants as M
 use Rattle.message.specs.Message.{Message, readHeader, readMessage, messagePlaces}
 use Rattle.message.specs.Listing.{Listed, listMessage}
-use Rattle.message.specs.Accessors.{ofFour, readAt, firstRead, fourth, routingContext, protocolClass, sequenceControl, ss7HopCount, shown, dataPart}
+use Rattle.message.specs.Accessors.{ofFour, readAt, firstRead, fourth, shown, addressFound, sourceAddress, destinationAddress}
+use Rattle.message.specs.Back.{foldAddress, Other, ReadsWith, CldtBack, Shows}
 use Rattle.message.specs.Constructors.{written, number, octet, given, cldt}
 use Rattle.message.proofs.Messages.{written-reads}
-use Rattle.message.proofs.GivenBack.{four-back, Other, foldAddress, given-back}
+use Rattle.message.proofs.AddressStands.{accessor-shows}
+use Rattle.message.proofs.GivenBack.{four-back, given-back}
 
 -- A message without addresses is read back as its type and parameters.
 pub constructed-reads : (m : MessageType) (ps : List Param) (os : List ℕ) → written m ps ≡ accepted os → readMessage os ≡ accepted (record { type = m; params = ps })
 constructed-reads m ps os e = written-reads (record { type = m; params = ps }) os e
-
--- So is one with two addresses, as they were written.
-pub record ReadsWith (m : MessageType) (ps : (source destination : List ℕ) → List Param) (s d : Outcome (List ℕ)) (os : List ℕ) : Type 0 where
-  pub source : List ℕ
-  pub destination : List ℕ
-  pub source-written : s ≡ accepted source
-  pub destination-written : d ≡ accepted destination
-  pub reads : readMessage os ≡ accepted (record { type = m; params = ps source destination })
 
 pub addressed-reads :
     (m : MessageType) (ps : (source destination : List ℕ) → List Param) (s d : Outcome (List ℕ)) (os : List ℕ)
@@ -106,15 +100,23 @@ shown-value values (accepted (some p)) v e = cc
 shown-value values (accepted none) v e = let z : _≡_ {A = ℕ} 0 1 = cc in absurd (omega arith)
 shown-value values (refused n vs) v e = let z : _≡_ {A = ℕ} 0 1 = cc in absurd (omega arith)
 
--- The arguments of a CLDT, by the accessors' definitions; s and d are the octets of its addresses.
-pub record CldtBack (context class : ℕ) (s d : List ℕ) (sequence : ℕ) (hasHop : Bool) (hop : ℕ) (octets values : List ℕ) (t : Table) (count : ℕ) : Type 0 where
-  pub context-back : routingContext values t count ≡ accepted (some context)
-  pub class-back : protocolClass values t count ≡ accepted (some class)
-  pub source-back : firstRead some 0x0102 values t count ≡ accepted (some s)
-  pub destination-back : firstRead some 0x0103 values t count ≡ accepted (some d)
-  pub sequence-back : sequenceControl values t count ≡ accepted (some sequence)
-  pub hop-back : ss7HopCount values t count ≡ accepted (flagged hasHop hop)
-  pub data-back : dataPart values t count ≡ octets
+-- An address that the first parameter with a tag reads as is what the accessor shows.
+shown-address :
+    (tag : ℕ) (values : List ℕ) (u : Table) (count : ℕ) (a : Address) (held : Table)
+    → Octets values
+    → firstRead (λ v. some (readAddress builtIn v)) tag values u count ≡ accepted (some (accepted a))
+    → Shows values a held (addressFound tag values (findParam values u count tag) held)
+unfolding firstRead
+shown-address tag values u count a held o e = go (findParam values u count tag) refl e
+  where
+    go :
+        (f : Outcome (Option Place))
+        → findParam values u count tag ≡ f
+        → mapped (readAt (λ v. some (readAddress builtIn v)) values) f ≡ accepted (some (accepted a))
+        → Shows values a held (addressFound tag values (findParam values u count tag) held)
+    go (accepted (some p)) h e = accessor-shows tag values u count p a held o h (cc)
+    go (accepted none) h e = let z : _≡_ {A = ℕ} 0 1 = cc in absurd (omega arith)
+    go (refused n vs) h e = let z : _≡_ {A = ℕ} 0 1 = cc in absurd (omega arith)
 
 module _ (context class sequence : ℕ) (hasHop : Bool) (hop : ℕ) (octets : List ℕ) where
   abbrev params : (s d : List ℕ) → List Param
@@ -164,7 +166,7 @@ module _ (context class sequence : ℕ) (hasHop : Bool) (hop : ℕ) (octets : Li
       )
 
   -- Its addresses, read from the parameters that the table has, are those that were given; capitals are read as small letters.
-  pub cldt-addresses-back :
+  addresses-read :
       (source : SuaAddress) (sv : List ℕ) (st : Table) (destination : SuaAddress) (dv : List ℕ) (dt : Table) (os : List ℕ) (t : Table) (r : SuaMessage)
       → cldt context class source sv st destination dv dt sequence hasHop hop octets ≡ accepted os
       → listMessage os t .answer ≡ accepted r
@@ -175,7 +177,7 @@ module _ (context class sequence : ℕ) (hasHop : Bool) (hop : ℕ) (octets : Li
       → All Other to
       → (firstRead (λ v. some (readAddress builtIn v)) 0x0102 os (listMessage os t .table) (r .count) ≡ accepted (some (accepted (foldAddress (addressOf source so)))))
       × (firstRead (λ v. some (readAddress builtIn v)) 0x0103 os (listMessage os t .table) (r .count) ≡ accepted (some (accepted (foldAddress (addressOf destination to)))))
-  cldt-addresses-back source sv st destination dv dt os t r e a so to hs hd ks kd =
+  addresses-read source sv st destination dv dt os t r e a so to hs hd ks kd =
       let k = addressed-reads M.Cldt params (encodeAddressAs 0x0102 source sv st) (encodeAddressAs 0x0103 destination dv dt) os e in
       let ps = params (k .source) (k .destination) in
       let rs = listed-params os _ t r (k .reads) a in (
@@ -184,3 +186,21 @@ module _ (context class sequence : ℕ) (hasHop : Bool) (hop : ℕ) (octets : Li
         first-of (λ v. some (readAddress builtIn v)) 0x0103 os (listMessage os t .table) (r .count) ps rs
             ∙ ap (λ (o : Outcome Address). accepted (some o)) (given-back 0x0103 destination dv dt to (k .destination) hd kd (k .destination-written)),
       )
+
+  -- The two address accessors give the addresses back, into any tables: the records stand for those that were given.
+  pub cldt-addresses-back :
+      (source : SuaAddress) (sv : List ℕ) (st : Table) (destination : SuaAddress) (dv : List ℕ) (dt : Table) (os : List ℕ) (t : Table) (r : SuaMessage)
+      → Octets os
+      → cldt context class source sv st destination dv dt sequence hasHop hop octets ≡ accepted os
+      → listMessage os t .answer ≡ accepted r
+      → (so to : List Param)
+      → records sv st (source .«other_count») ≡ accepted so
+      → records dv dt (destination .«other_count») ≡ accepted to
+      → All Other so
+      → All Other to
+      → (held : Table)
+      → Shows os (foldAddress (addressOf source so)) held (sourceAddress os (listMessage os t .table) (r .count) held)
+      × Shows os (foldAddress (addressOf destination to)) held (destinationAddress os (listMessage os t .table) (r .count) held)
+  cldt-addresses-back source sv st destination dv dt os t r o e a so to hs hd ks kd held =
+      let (x, y) = addresses-read source sv st destination dv dt os t r e a so to hs hd ks kd in
+      (shown-address 0x0102 os _ _ _ held o x, shown-address 0x0103 os _ _ _ held o y)

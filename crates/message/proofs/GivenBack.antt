@@ -20,23 +20,8 @@ use Rattle.address.specs.Given.{encodeAddressAs}
 use Rattle.address.specs.declared.RoutingIndicator.{RoutingIndicator}
 use Rattle.address.specs.declared.RoutingIndicator.the-variants as I
 use Rattle.address.specs.declared.SuaAddress.{SuaAddress}
+use Rattle.message.specs.Back.{foldTitle, foldAddress, Other}
 use Rattle.address.proofs.Rewriting.{addressOctets, written-inv, octets-read}
-
--- Capitals as small letters.
-abbrev pub foldTitle : Title → Title
-foldTitle t = record { gti = t .gti; tt = t .tt; np = t .np; noa = t .noa; digits = map fold (t .digits) }
-
-abbrev pub foldAddress : Address → Address
-foldAddress a = record {
-  routing = a .routing;
-  gt = a .gt;
-  pc = a .pc;
-  ssn = a .ssn;
-  title = Option·map foldTitle (a .title);
-  code = a .code;
-  sub = a .sub;
-  others = a .others;
-}
 
 -- Where there are no capitals, nothing changes.
 pub folded-same : (a : Address) → ((t : Title) → a .title ≡ some t → map fold (t .digits) ≡ t .digits) → foldAddress a ≡ a
@@ -45,12 +30,6 @@ folded-same a h = ap (λ (o : Option Title). record { routing = a .routing; gt =
     go : (o : Option Title) → a .title ≡ o → Option·map foldTitle o ≡ o
     go none e = refl
     go (some t) e = ap (λ (ds : List ℕ). some (record { gti = t .gti; tt = t .tt; np = t .np; noa = t .noa; digits = ds })) (h t e)
-
--- A sub-parameter that is no title, no point code and no SSN.
-pub record Other (p : Param) : Type 0 where
-  pub title : p .tag ≡ 0x8001 → ⊥
-  pub code : p .tag ≡ 0x8002 → ⊥
-  pub sub : p .tag ≡ 0x8003 → ⊥
 
 abbrev Kept : Piece → Type 0
 Kept (title t) = Unit {0}

@@ -16,4 +16,5 @@ pub mod ConstructedWorked
 pub mod Accessing
 pub mod Addresses
 pub mod AddressBack
+pub mod AddressStands
 pub mod Accessed

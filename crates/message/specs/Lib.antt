@@ -6,4 +6,5 @@ pub mod Standing
 pub mod PointCodes
 pub mod Accessors
 pub mod Constructors
+pub mod Back
 pub mod Steps

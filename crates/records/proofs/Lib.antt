@@ -1,3 +1,4 @@
+-- Laws and theorems that belong to no one function.
 pub mod Planning
 pub mod Storing
 pub mod Filling

@@ -1,5 +1,6 @@
 -- The constructors of messages (message.rs; document 01, module 6): a message's type and its parameters in the Rust's order,
--- written. Refused: the source's, the destination's, further 10 in order, 12 (document 01, 'Order').
+-- written. Refused: the source's, the destination's, further 10 in order, 12 (document 01, 'Order'). An argument that may be
+-- absent is a flag and a value; an address is a record with its own values and table.
 use Prim.Native.Nat.{ℕ}
 use mathlib.Core.Bool.{Bool}
 use mathlib.Core.List.{List, [], _∷_, _++_}
@@ -13,6 +14,7 @@ use Rattle.message.specs.declared.types.MessageType.the-variants as M
 use Rattle.message.specs.Message.{message, writeMessage}
 use Rattle.message.specs.PointCodes.{codesOctets}
 
+-- The octets of a type and a list of parameters.
 abbrev pub written : MessageType → List Param → Outcome (List ℕ)
 written m ps = writeMessage (message m ps)
 
@@ -31,7 +33,8 @@ given there p = pick there (p ∷ []) []
 abbrev pub affected : (codes : List ℕ) → Param
 affected codes = param 0x0012 (codesOctets codes)
 
--- CLDT (RFC 3868, 3.2.1).
+-- CLDT (RFC 3868, 3.2.1): routing context, protocol class, source and destination address, sequence control, SS7 hop counter,
+-- data.
 abbrev pub cldt :
     (context class : ℕ)
     → SuaAddress → (sourceValues : List ℕ) → Table
@@ -45,7 +48,8 @@ cldt context class source sv st destination dv dt sequence hasHop hop octets =
     (number 0x0006 context ∷ octet 0x0115 class ∷ param 0x0102 s ∷ param 0x0103 d ∷ number 0x0116 sequence
     ∷ given hasHop (octet 0x0101 hop) ++ param 0x010B octets ∷ [])))
 
--- CLDR (RFC 3868, 3.2.2): the cause has two reserved octets, its type and its value (RFC 3868, 3.10.6).
+-- CLDR (RFC 3868, 3.2.2): routing context, SCCP cause, source and destination address, data. The cause has two reserved octets,
+-- its type and its value (RFC 3868, 3.10.6).
 abbrev pub cldr :
     (context causeType causeValue : ℕ)
     → SuaAddress → (sourceValues : List ℕ) → Table

@@ -9,8 +9,8 @@ use borrow.Rule.Slice.PartMut.{midOf, putMid}
 use Rattle.bcd.specs.Outcome.{Outcome, accepted, refused, after, mapped, each, All, deliver}
 use Rattle.bcd.proofs.Outcomes.{accepted-inj, mapped-inv, each-inv, each-split, deliver-buffer, deliver-answer}
 use Rattle.bcd.proofs.Writing.{Begun, begin, extend, untouched, delivered}
-use Rattle.parameter.specs.Parameter.{Param, four, paddedLength, mostValue, paramOctets, runLength, encodeParam, wireLength, frameParam, param}
-use Rattle.parameter.proofs.RoundTrip.{octets-length, run-length, Sized, encode-inv}
+use Rattle.parameter.specs.Parameter.{Param, four, paddedLength, mostValue, paramOctets, runLength, encodeParam, wireLength, frameParam, param, Sized}
+use Rattle.parameter.proofs.RoundTrip.{octets-length, run-length, encode-inv}
 use Rattle.parameter.proofs.Encoding.{wire-encode, wire-within, encode-within}
 use Rattle.parameter.proofs.InPlace.{framed-there}
 use Rattle.message.specs.PointCodes.{codesOctets, packCodes}

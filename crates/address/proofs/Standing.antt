@@ -1,30 +1,25 @@
 -- An address value that is read is read into any table, unless the table is too small.
-use Prim.Native.Nat.{ℕ, _≤_}
-use mathlib.Core.Path.{_≡_, refl, sym, ap, _∙_, subst}
+use Prim.Native.Nat.{ℕ}
+use mathlib.Core.Path.{_≡_, sym, ap, _∙_, subst}
 use mathlib.Core.Logic.{⊎-elim, inl, inr}
-use mathlib.Core.List.{List, [], _∷_, map}
-use lib.ListN.{length, length-map}
-use Rattle.bcd.specs.Outcome.{Outcome, accepted, refused, after, mapped, Octets}
+use mathlib.Core.List.{List, [], _∷_}
+use Rattle.bcd.specs.Outcome.{Outcome, accepted, refused, mapped, Octets}
 use Rattle.bcd.specs.Digits.{builtIn}
 use Rattle.parameter.specs.declared.Place.{Place}
-use Rattle.parameter.specs.Walk.{places, valued}
+use Rattle.parameter.specs.Walk.{places}
 use Rattle.parameter.specs.Table.{Table, Tabulated, tabulate, records}
-use Rattle.parameter.proofs.Walking.{places-inside}
 use Rattle.parameter.proofs.Stored.{stored-or-small}
 use Rattle.bcd.proofs.Outcomes.{accepted-inj}
-use Rattle.address.specs.Address.{Address, addressWith, readAddress}
-use Rattle.address.specs.Listing.{otherPlaces, addressPlaces, addressRecord, recordIn, Listed, listAddress}
+use Rattle.address.specs.Address.{Address, readAddress}
+use Rattle.address.specs.Listing.{otherPlaces, addressRecord, recordIn, Listed, listAddress}
 use Rattle.address.specs.Records.{addressOf}
 use Rattle.address.specs.Steps.Plan.{Read}
 use Rattle.address.specs.Standing.{ListsAs}
-use Rattle.address.specs.declared.SuaAddress.{SuaAddress}
 use Rattle.address.specs.declared.parts.Parts.{Parts}
-use Rattle.address.proofs.Keeping.{Inside}
-use Rattle.address.proofs.Interpreting.{others-hold}
 use Rattle.address.proofs.Interpreted.{address, read-whole, accepted-read}
 use Rattle.address.proofs.AddressRecords.{address-back}
 use Rattle.address.proofs.Tabling.{places-known}
-use Rattle.address.proofs.TableBack.{others-all}
+use Rattle.address.proofs.TableBack.{others, others-count, others-inside, routing}
 
 module _ {v : List ℕ} {s : Parts} (y : Read v s) (t : Table) where
   abbrev a : Address
@@ -43,17 +38,6 @@ module _ {v : List ℕ} {s : Parts} (y : Read v s) (t : Table) where
   unfolding listAddress
   listed = rw (places-known y, read-whole y)
 
-  others : a .others ≡ map (valued v) ps
-  unfolding addressWith
-  others = others-hold builtIn v (y .known .places)
-
-  routing : a .routing ≤ 4
-  unfolding addressWith
-  routing = y .known .routing
-
-  count : length (a .others) ≡ length ps
-  count = ap length others ∙ length-map ps (valued v)
-
   lists : ListsAs v a t
   lists =
       ⊎-elim
@@ -64,17 +48,17 @@ module _ {v : List ℕ} {s : Parts} (y : Read v s) (t : Table) where
         answer = ap (λ (l : Listed). l .answer) told;
         others =
             ap (λ (l : Listed). records v (l .table) (l .address .«other_count»)) told
-            ∙ ap (records v (stored .table)) count
+            ∙ ap (records v (stored .table)) (others-count y)
             ∙ r
-            ∙ ap accepted (sym others);
-        address = ap (λ (l : Listed). addressOf (l .address) (a .others)) told ∙ address-back a routing;
+            ∙ ap accepted (sym (others y));
+        address = ap (λ (l : Listed). addressOf (l .address) (a .others)) told ∙ address-back a (routing y);
       }))
       (λ small.
       inr
       (listed
       ∙ ap (λ (s : Tabulated). record { answer = mapped (λ _. tt) (read (s .answer)); address = recordIn (read (s .answer)); table = s .table }) small
-      ∙ ap (λ (n : ℕ). record { answer = refused 13 (n ∷ []); address = recordIn (refused 13 (n ∷ [])); table = t }) (sym count)))
-      (stored-or-small v ps t (others-all (Inside v) (y .known .places) (places-inside v 4 (y .known .places) (y .known .walked))))
+      ∙ ap (λ (n : ℕ). record { answer = refused 13 (n ∷ []); address = recordIn (refused 13 (n ∷ [])); table = t }) (sym (others-count y))))
+      (stored-or-small v ps t (others-inside y))
 
 -- Reading an address value into a record and a table is refused only as 13, and what it stores stands for the address.
 pub address-listed : (v : List ℕ) (a : Address) (t : Table) → Octets v → readAddress builtIn v ≡ accepted a → ListsAs v a t

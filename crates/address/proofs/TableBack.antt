@@ -113,11 +113,14 @@ module _ {v : List ℕ} {s : Parts} (y : Read v s) where
   unfolding addressWith
   others = others-hold builtIn v ps
 
+  pub others-count : length (a .others) ≡ length (otherPlaces ps)
+  others-count = ap length others ∙ length-map (otherPlaces ps) (valued v)
+
   few : FewDigits (a .title)
   unfolding addressWith
   few = subst FewDigits (sym (title-holds builtIn v ps)) (kept-few v (noteAll nothing ps .title) (y .known .octets))
 
-  routing : a .routing ≤ 4
+  pub routing : a .routing ≤ 4
   unfolding addressWith
   routing = y .known .routing
 
@@ -131,7 +134,7 @@ module _ {v : List ℕ} {s : Parts} (y : Read v s) where
   unfolding encodeAddressAs
   record-written values held e =
       let from-table : records values held (length (a .others)) ≡ accepted (a .others) =
-      ap (records values held) (ap length others ∙ length-map (otherPlaces ps) (valued v)) ∙ e ∙ ap accepted (sym others) in
+      ap (records values held) others-count ∙ e ∙ ap accepted (sym others) in
       ap (λ (o : Outcome (List Param)). after o (λ os. after (addressGiven (addressRecord a) os) (writeAddress builtIn 0))) from-table
       ∙ ap (λ (o : Outcome Address). after o (writeAddress builtIn 0)) (given-read a routing few)
 

@@ -1,14 +1,13 @@
 -- The parameters of octets that mean something, beside the parts of the meaning.
-use Prim.Native.Nat.{ℕ, _≤_}
-use mathlib.Core.Path.{_≡_, refl, sym, ap, _∙_, subst}
+use Prim.Native.Nat.{ℕ}
+use mathlib.Core.Path.{_≡_, refl, ap, _∙_, subst}
 use mathlib.Core.Bool.{Bool, true, false}
 use mathlib.Core.List.{List, [], _∷_, _++_}
 use native.Mathlib.Omega.{arith}
-use lib.ListN.{length}
 use Rattle.bcd.specs.Outcome.{accepted, each, All}
 use Rattle.bcd.specs.Digits.{builtIn}
 use Rattle.bcd.proofs.Outcomes.{accepted-inj, after-inv, mapped-inv, each-inv, bounded-within}
-use Rattle.parameter.specs.Parameter.{Param, mostValue, Fits}
+use Rattle.parameter.specs.Parameter.{Param, Fits}
 use Rattle.address.specs.Address.{Address, addressIn, readAddress}
 use Rattle.address.proofs.Standing.{address-listed}
 use Rattle.message.specs.Message.{Message, readMessage}

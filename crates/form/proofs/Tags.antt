@@ -1,7 +1,7 @@
 -- Which parameters are addresses: the source address and the destination address (RFC 3868, 3.10.2 and 3.10.3).
 use Prim.Native.Nat.{ℕ}
 use mathlib.Core.Path.{_≡_, refl}
-use mathlib.Core.Bool.{Bool, true, false, _||_}
+use mathlib.Core.Bool.{Bool, true, false}
 use mathlib.Core.Logic.{_⊎_, _↔_, ⊎-elim, inl, inr}
 use native.Mathlib.Omega.{arith}
 use lib.Dec.{eqb}

@@ -1,5 +1,4 @@
 -- A form's parameters beside the parts of a meaning: what reading a form into lent tables gives.
-use Prim.Native.Nat.{ℕ}
 use mathlib.Core.Path.{_≡_}
 use mathlib.Core.List.{List, [], _∷_}
 use Rattle.parameter.specs.Parameter.{Param}

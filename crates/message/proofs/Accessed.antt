@@ -6,7 +6,7 @@ use mathlib.Core.List.{List, [], _∷_}
 use Rattle.bcd.specs.Outcome.{accepted, refused}
 use Rattle.parameter.specs.Parameter.{twoAt}
 use Rattle.parameter.specs.Walk.{headed, stepAt, steps, places, parameters}
-use Rattle.parameter.specs.Table.{Table, table, room, tabulate, rows, recordIn, records, findParam}
+use Rattle.parameter.specs.Table.{table, room, tabulate, rows, recordIn, records, findParam}
 use Rattle.address.specs.Address.{pieceIn, addressWith, addressIn, readAddress}
 use Rattle.address.specs.Listing.{addressPlaces, listAddress}
 use Rattle.message.specs.PointCodes.{codesIn}

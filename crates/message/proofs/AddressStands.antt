@@ -13,16 +13,15 @@ use Rattle.parameter.specs.declared.Place.{Place}
 use Rattle.parameter.specs.Walk.{valued}
 use Rattle.parameter.specs.Table.{Table, room, Tabulated, tabulate, records, findParam}
 use Rattle.parameter.proofs.Stored.{stored-records}
-use Rattle.address.specs.Address.{Address, addressWith, readAddress}
+use Rattle.address.specs.Address.{Address, readAddress}
 use Rattle.address.specs.Records.{addressOf}
 use Rattle.address.specs.Listing.{otherPlaces, addressRecord, recordIn, noAddress, Listed, listed, listAddress}
 use Rattle.address.specs.Steps.Plan.{Read}
 use Rattle.address.specs.declared.parts.Parts.{Parts}
-use Rattle.address.proofs.Interpreting.{others-hold}
 use Rattle.address.proofs.Interpreted.{address, read-whole, accepted-read}
 use Rattle.address.proofs.AddressRecords.{address-back}
 use Rattle.address.proofs.Tabling.{places-known}
-use Rattle.address.proofs.TableBack.{others-inside}
+use Rattle.address.proofs.TableBack.{others, others-count, others-inside, routing}
 use Rattle.message.specs.Accessors.{moved, listAddressAt, addressFound}
 use Rattle.message.specs.Back.{Shows}
 use Rattle.message.proofs.Accessing.{find-inside, value-octets}
@@ -41,17 +40,6 @@ module _ (values : List ℕ) (p : Place) (inside : p .start + p .length ≤ leng
 
   abbrev qs : List Place
   qs = map (moved (p .start)) ps
-
-  others : a .others ≡ map (valued v) ps
-  unfolding addressWith
-  others = others-hold builtIn v (y .known .places)
-
-  routing : a .routing ≤ 4
-  unfolding addressWith
-  routing = y .known .routing
-
-  count : length (a .others) ≡ length ps
-  count = ap length others ∙ length-map ps (valued v)
 
   moved-count : length qs ≡ length ps
   moved-count = length-map ps (moved (p .start))
@@ -82,10 +70,10 @@ module _ (values : List ℕ) (p : Place) (inside : p .start + p .length ≤ leng
             answer = ap (λ (l : Listed). l .answer) is;
             others =
                 ap (λ (l : Listed). records values (l .table) (l .address .«other_count»)) is
-                ∙ ap (records values (tableOf qs t)) (count ∙ sym moved-count)
+                ∙ ap (records values (tableOf qs t)) (others-count y ∙ sym moved-count)
                 ∙ k .params
-                ∙ ap accepted (values-moved values p inside ps (others-inside y) ∙ sym others);
-            address = ap (λ (l : Listed). addressOf (l .address) (a .others)) is ∙ address-back a routing;
+                ∙ ap accepted (values-moved values p inside ps (others-inside y) ∙ sym (others y));
+            address = ap (λ (l : Listed). addressOf (l .address) (a .others)) is ∙ address-back a (routing y);
           })
 
       small : room t < length ps → Shows values a t (listAddressAt (p .start) v t)
@@ -94,7 +82,7 @@ module _ (values : List ℕ) (p : Place) (inside : p .start + p .length ≤ leng
           (at-base
           ∙ ap (λ (n : Outcome ℕ). told n (tabulate (accepted qs) t .table)) (ap (λ (s : Tabulated). s .answer) (tabulate-small ps t h))
           ∙ ap (λ (s : Tabulated). listed (refused 13 (length ps ∷ [])) noAddress (s .table)) (tabulate-small qs t (omega (arith, moved-count)))
-          ∙ ap (λ (n : ℕ). listed (refused 13 (n ∷ [])) noAddress t) (sym count))
+          ∙ ap (λ (n : ℕ). listed (refused 13 (n ∷ [])) noAddress t) (sym (others-count y)))
 
 pub accessor-shows :
     (tag : ℕ) (values : List ℕ) (u : Table) (count : ℕ) (p : Place) (a : Address) (t : Table)

@@ -7,7 +7,7 @@ use native.Mathlib.Omega.{arith}
 use lib.ListN.{length, length-append}
 use borrow.Rule.Slice.PartMut.{midOf, putMid}
 use Rattle.bcd.specs.Outcome.{Outcome, accepted, refused, after, mapped, each, deliver}
-use Rattle.bcd.proofs.Outcomes.{accepted-inj, after-inv, mapped-inv, each-inv, deliver-answer}
+use Rattle.bcd.proofs.Outcomes.{accepted-inj, after-inv, mapped-inv, deliver-answer}
 use Rattle.bcd.proofs.Writing.{delivered}
 use Rattle.parameter.specs.Parameter.{Param, four, paddedLength, mostValue, paramOctets, encodeParam, writable, frameParam, param}
 use Rattle.parameter.specs.Table.{Table}

@@ -2,22 +2,19 @@
 use Prim.Native.Nat.{ℕ}
 use mathlib.Core.Path.{_≡_, refl, sym, ap, _∙_}
 use mathlib.Core.Bool.{Bool, true, false}
+use mathlib.Core.Logic.{⊎-elim}
 use mathlib.Core.Option.{Option, none, some}
 use mathlib.Core.List.{List, [], _∷_, _++_, map}
 use native.Mathlib.Omega.{arith}
 use lib.Dec.{eqb}
-use lib.ListN.{drop}
 use Rattle.bcd.specs.Outcome.{Outcome, accepted, refused, pick, after, mapped, All, Octets}
 use Rattle.bcd.specs.Digits.{builtIn}
-use Rattle.bcd.proofs.Outcomes.{accepted-inj, after-inv, mapped-inv}
+use Rattle.bcd.proofs.Outcomes.{accepted-inj, never, after-inv}
 use Rattle.parameter.specs.declared.Place.{Place}
 use Rattle.parameter.specs.Parameter.{Param, fourIn, param}
-use Rattle.parameter.specs.Walk.{places, valued, parameters}
-use Rattle.parameter.specs.Table.{Table, Tabulated, tabulate, records, firstWith, findParam}
-use Rattle.parameter.proofs.Structure.{places-parameters}
-use Rattle.parameter.proofs.Walking.{places-inside}
+use Rattle.parameter.specs.Walk.{valued}
+use Rattle.parameter.specs.Table.{Table, records, firstWith, findParam}
 use Rattle.parameter.proofs.Records.{firstRows, held}
-use Rattle.parameter.proofs.Stored.{stored-records}
 use Rattle.address.specs.Address.{Address, readAddress}
 use Rattle.address.specs.Records.{flagged, addressOf}
 use Rattle.address.specs.declared.SuaAddress.{SuaAddress}
@@ -25,12 +22,13 @@ use Rattle.address.specs.Given.{encodeAddressAs}
 use Rattle.message.specs.declared.SuaMessage.{SuaMessage}
 use Rattle.message.specs.declared.types.MessageType.{MessageType}
 use Rattle.message.specs.declared.types.MessageType.the-variants as M
-use Rattle.message.specs.Message.{Message, readHeader, readMessage, messagePlaces}
+use Rattle.message.specs.Message.{Message, readMessage}
 use Rattle.message.specs.Listing.{Listed, listMessage}
 use Rattle.message.specs.Accessors.{ofFour, readAt, firstRead, fourth, shown, addressFound, sourceAddress, destinationAddress}
 use Rattle.message.specs.Back.{foldAddress, Other, ReadsWith, CldtBack, Shows}
 use Rattle.message.specs.Constructors.{written, number, octet, given, cldt}
 use Rattle.message.proofs.Messages.{written-reads}
+use Rattle.message.proofs.Standing.{message-listed}
 use Rattle.message.proofs.AddressStands.{accessor-shows}
 use Rattle.message.proofs.GivenBack.{four-back, given-back}
 
@@ -53,18 +51,11 @@ pub listed-params :
     → readMessage xs ≡ accepted m
     → listMessage xs t .answer ≡ accepted r
     → records xs (listMessage xs t .table) (r .count) ≡ accepted (m .params)
-unfolding readMessage listMessage messagePlaces
 listed-params xs m t r e a =
-    let (h, hh, e1) = after-inv (readHeader xs) _ e in
-    let (qs, hq, j) = mapped-inv _ (parameters (drop 8 xs)) e1 in
-    let (ps, hp, k) = mapped-inv (map (valued xs)) (places xs 8) (places-parameters xs 8 ∙ hq) in
-    let whole : after (readHeader xs) (λ h. places xs 8) ≡ accepted ps = ap (λ (o : Outcome _). after o (λ h. places xs 8)) hh ∙ hp in
-    let (h2, hh2, a1) = after-inv (readHeader xs) _ a in
-    let (n, hn, same) = mapped-inv _ (tabulate (after (readHeader xs) (λ h. places xs 8)) t .answer) a1 in
-    let s = tabulate (after (readHeader xs) (λ h. places xs 8)) t in
-    let stored = stored-records xs ps t (s .table) n (places-inside xs 8 ps hp) (sym (ap (λ (o : Outcome ℕ). record { answer = o; table = s .table }) hn) ∙ ap (λ (o : Outcome (List Place)). tabulate o t) whole) in
-    let count : r .count ≡ n = sym (ap (λ (r : SuaMessage). r .count) same) in
-    ap (records xs (s .table)) (count ∙ stored .count) ∙ stored .params ∙ ap accepted (k ∙ ap (λ (m : Message). m .params) j)
+    ⊎-elim
+    (λ stands. ap (records xs (listMessage xs t .table)) (ap (λ (r : SuaMessage). r .count) (accepted-inj (sym a ∙ stands .answer))) ∙ stands .params)
+    (λ small. absurd (never (sym (ap (λ (l : Listed). l .answer) small) ∙ a)))
+    (message-listed xs m t e)
 
 -- The first of a list's parameters with a tag, read.
 abbrev pub readFirst : {A : Type 0} → (List ℕ → Option A) → (tag : ℕ) → List Param → Option A

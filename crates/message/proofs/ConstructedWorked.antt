@@ -1,8 +1,7 @@
 -- Messages that the Rust's constructors write, from the definitions by computation.
-use Prim.Native.Nat.{ℕ}
 use mathlib.Core.Path.{_≡_, refl}
 use mathlib.Core.Bool.{true, false}
-use mathlib.Core.List.{List, [], _∷_}
+use mathlib.Core.List.{[], _∷_}
 use Rattle.bcd.specs.Outcome.{accepted}
 use Rattle.parameter.specs.Parameter.{paramOctets, runOctets, encodeParam}
 use Rattle.parameter.specs.Table.{Table, table, room, rows, records}

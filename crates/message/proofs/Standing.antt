@@ -1,10 +1,10 @@
 -- A message that is read is read into any table, unless the table is too small.
 use Prim.Native.Nat.{ℕ}
-use mathlib.Core.Path.{_≡_, refl, sym, ap, _∙_, subst}
+use mathlib.Core.Path.{_≡_, sym, ap, _∙_, subst}
 use mathlib.Core.Logic.{⊎-elim, inl, inr}
 use mathlib.Core.List.{List, [], _∷_, map}
 use lib.ListN.{length, drop, length-map}
-use Rattle.bcd.specs.Outcome.{Outcome, accepted, refused, mapped}
+use Rattle.bcd.specs.Outcome.{accepted, refused, mapped}
 use Rattle.bcd.proofs.Outcomes.{after-inv, mapped-inv}
 use Rattle.parameter.specs.declared.Place.{Place}
 use Rattle.parameter.specs.Parameter.{Param}

@@ -1,6 +1,6 @@
 -- The accessors of a message: its parameters by name (RFC 3868, 3.9 and 3.10; document 01, module 6). Each takes the values,
 -- the table of records and their count; 15 looks at every record (document 01, 'Order').
-use Prim.Native.Nat.{ℕ, _+_, _/_, _%_}
+use Prim.Native.Nat.{ℕ, _+_, _/_}
 use mathlib.Core.Option.{Option, none, some}
 use mathlib.Core.List.{List, [], _∷_, map}
 use lib.ListN.{length, getD}
@@ -11,7 +11,6 @@ use Rattle.parameter.specs.declared.Place.{Place}
 use Rattle.parameter.specs.Parameter.{fourIn}
 use Rattle.parameter.specs.Walk.{valued}
 use Rattle.parameter.specs.Table.{Table, tabulate, findParam}
-use Rattle.address.specs.declared.SuaAddress.{SuaAddress}
 use Rattle.address.specs.Listing.{addressPlaces, noAddress, Listed, listed, listAddress}
 use Rattle.message.specs.PointCodes.{codesIn}
 use Rattle.message.specs.declared.accessors.Octet.{Octet}

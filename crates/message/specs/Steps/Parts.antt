@@ -3,7 +3,7 @@ use Prim.Native.Nat.{ℕ, _≤_}
 use mathlib.Core.Path.{_≡_}
 use mathlib.Core.List.{List, [], _∷_, _++_}
 use lib.ListN.{length}
-use Rattle.bcd.specs.Outcome.{Outcome, accepted, after, mapped, each}
+use Rattle.bcd.specs.Outcome.{Outcome, accepted, after, each}
 use Rattle.parameter.specs.Parameter.{Param, encodeParam, param}
 use Rattle.parameter.specs.Table.{Table}
 use Rattle.address.specs.declared.SuaAddress.{SuaAddress}

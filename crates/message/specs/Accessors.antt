@@ -1,6 +1,6 @@
 -- The accessors of a message: its parameters by name (RFC 3868, 3.9 and 3.10; document 01, module 6). Each takes the values,
 -- the table of records and their count; 15 looks at every record (document 01, 'Order').
-use Prim.Native.Nat.{ℕ, _+_, _/_}
+use Prim.Native.Nat.{ℕ, _+_}
 use mathlib.Core.Option.{Option, none, some}
 use mathlib.Core.List.{List, [], _∷_, map}
 use lib.ListN.{length, getD}

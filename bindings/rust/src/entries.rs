@@ -1,0 +1,85 @@
+//! The entries of include/sua.h. Each function answers the report of its entry.
+
+/// An entry's number (0 where it accepted) and its values, or the octets written.
+pub(crate) type Report = [u64; 4];
+
+extern "C" {
+    fn sua_settle(
+        input: *const u8,
+        input_len: usize,
+        out: *mut u8,
+        out_len: usize,
+        report: *mut u64,
+        report_len: usize,
+    ) -> u64;
+    fn sua_read(
+        input: *const u8,
+        input_len: usize,
+        out: *mut u8,
+        out_len: usize,
+        report: *mut u64,
+        report_len: usize,
+    ) -> u64;
+    fn sua_encode(
+        message_class: u8,
+        message_type: u8,
+        list: *const u8,
+        list_len: usize,
+        out: *mut u8,
+        out_len: usize,
+        report: *mut u64,
+        report_len: usize,
+    ) -> u64;
+}
+
+pub(crate) fn settle(input: &[u8], out: &mut [u8]) -> Report {
+    let mut report = [0; 4];
+    // SAFETY: the pointers and lengths are those of three slices. A slice's pointer is never null,
+    // also where it is empty, and one that is lent for writing overlaps no other. The entry is
+    // defined for every contents and every length, and writes inside `out` and `report` only.
+    unsafe {
+        sua_settle(
+            input.as_ptr(),
+            input.len(),
+            out.as_mut_ptr(),
+            out.len(),
+            report.as_mut_ptr(),
+            report.len(),
+        )
+    };
+    report
+}
+
+pub(crate) fn read(input: &[u8], out: &mut [u8]) -> Report {
+    let mut report = [0; 4];
+    // SAFETY: as in `settle`.
+    unsafe {
+        sua_read(
+            input.as_ptr(),
+            input.len(),
+            out.as_mut_ptr(),
+            out.len(),
+            report.as_mut_ptr(),
+            report.len(),
+        )
+    };
+    report
+}
+
+pub(crate) fn encode(class: u8, msg_type: u8, list: &[u8], out: &mut [u8]) -> Report {
+    let mut report = [0; 4];
+    // SAFETY: as in `settle`, with `list` in place of the input; the two numbers may be any.
+    unsafe {
+        sua_encode(
+            class,
+            msg_type,
+            list.as_ptr(),
+            list.len(),
+            out.as_mut_ptr(),
+            out.len(),
+            report.as_mut_ptr(),
+            report.len(),
+        )
+    };
+    report
+}

@@ -35,8 +35,9 @@
 //! # Building
 //!
 //! The build takes libsua.a from the folder that the environment's `SUA_LIB` names, by its whole
-//! path. Without it the library is that of the repository, and `bin/library` builds it first: at its
-//! first use this proves the codec, which takes some minutes; `cargo build -vv` shows how far it is.
+//! path. Without it the library is that of the repository, and `bin/library` builds it first. At
+//! its first use this proves the codec, which takes some minutes; `cargo build -vv` shows how far
+//! it is.
 
 #![deny(missing_docs)]
 #![deny(unsafe_op_in_unsafe_fn)]

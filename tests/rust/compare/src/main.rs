@@ -1,0 +1,31 @@
+//! Compares the port with the Rust by running both. tests/rust/run, record and bench call it.
+
+mod archive;
+mod bench;
+mod calls;
+mod generate;
+mod messages;
+mod oracle;
+mod random;
+mod record;
+mod replay;
+mod rows;
+mod typed;
+
+fn main() {
+    let words: Vec<String> = std::env::args().collect();
+    let number = |i: usize| words.get(i).and_then(|w| w.parse().ok()).unwrap_or(0);
+    let right = match words.get(1).map(String::as_str) {
+        Some("archive") => archive::compare(number(2), number(3)),
+        Some("typed") => typed::compare(number(2), number(3)),
+        Some("calls") => replay::compare(number(2), number(3)),
+        Some("rows") => rows::compare(&words[2]),
+        Some("record") => record::record(&words[2]),
+        Some("bench") => bench::bench(),
+        _ => {
+            eprintln!("compare archive|typed|calls COUNT SEED, rows FILE, record FOLDER, or bench");
+            false
+        }
+    };
+    std::process::exit(i32::from(!right));
+}

@@ -1,0 +1,115 @@
+//! The fixed list of calls that crates/replay runs in the gate, with the answers recorded from the Rust.
+
+use crate::calls::{answer, Call};
+use crate::generate::{call, refused, Sizes, CALLS};
+use crate::random::Random;
+use crate::replay::marked;
+use std::collections::BTreeSet;
+
+/// Calls of each function, at least, beside the worked ones.
+const EACH: usize = 40;
+/// The characters of a call and its answer, at most.
+const SHORT: usize = 900;
+/// The same, where they show a refusal that nothing shorter showed.
+const LONG: usize = 60_000;
+
+/// Document 01's worked messages, and pairs and indicators in full.
+fn worked() -> Vec<String> {
+    let asp = "0100030100000008";
+    let messages = [
+        asp.to_string(),
+        "01ff030100000000".into(),
+        format!("{asp}aabbcc"),
+        format!("{asp}00040003"),
+        format!("{asp}0004000541"),
+        format!("{asp}0004000641"),
+        "0200010100000008".into(),
+        "0100010100000008".into(),
+        "01000301000000".into(),
+        "0100070100000000010200180002000780030008000000068003000800000008".into(),
+        "01000701000000000103001800010004800100 0e0000000403000104 21f3aabb".replace(' ', ""),
+        "01000701000000000103001800010004800100 0e0000000404000104 21f30000".replace(' ', ""),
+        String::new(),
+    ];
+    let mut lines = Vec::new();
+    for message in messages {
+        lines.push(format!("settle 64 x{message}"));
+        lines.push(format!("settled_length x{message}"));
+        lines.push(format!("message_decode 4 4 4 x{message}"));
+        lines.push(format!("read 80 x{message}"));
+    }
+    for line in [
+        "address_decode 2 2 2 x0002000780030008000000068003000800000008",
+        "decode_gt_digits 3 x21f3",
+        "decode_gt_digits 4 x21f3",
+        "decode_gt_digits 9 x2103",
+        "encode_gt_digits 4 x3141",
+        "encode_gt_digits 4 x3135353530313432",
+        "encode_gt_digits 4 x",
+        "pack_affected_point_codes 8 2 74565 4278264645",
+        // S13: an address that would take 65,532 octets written again, and one that takes 65,528.
+        "rewrite 258 65536 x000200008005fff7+42*65523",
+        "rewrite 258 65536 x000200008005fff4+42*65520",
+        "settle 65600 x010007010000000001 02ffff000200008005fff7+42*65523",
+        "settle 65600 x010007010000000001 02fffc000200008005fff4+42*65520",
+    ] {
+        lines.push(line.replacen("01 02", "0102", 1));
+    }
+    for class in 0..=11 {
+        for msg_type in 0..=12 {
+            lines.push(format!("class_type {class} {msg_type}"));
+        }
+        lines.push(format!("class {class}"));
+    }
+    for n in [0, 1, 2, 3, 4, 5, 255, 65535] {
+        lines.push(format!("routing_indicator {n}"));
+    }
+    lines
+}
+
+/// Random calls of a function: short ones, half of them accepted, and for each of its refusals one at the least.
+fn chosen(name: &str, numbers: &[u64], seed: u64) -> Vec<(String, String)> {
+    let mut pairs = Vec::new();
+    let mut missing: BTreeSet<u64> = numbers.iter().copied().collect();
+    let mut refusals = 0;
+    for i in 0.. {
+        assert!(i < 200_000, "{name} never refuses as {missing:?}");
+        let mut r = Random::new(seed + i);
+        let call = call(&mut r, name, Sizes { large_once_in: if i % 4 == 0 { 8 } else { 200 } });
+        let given = answer(&call);
+        let line = marked(&call, &given);
+        let size = line.len() + given.len();
+        let number = refused(name, &given);
+        let wanted = missing.contains(&number) && (size <= SHORT || (i > 2_000 && size < LONG));
+        let more = size <= SHORT && pairs.len() < EACH && (number == 0 || refusals < EACH / 2);
+        if wanted || more {
+            missing.remove(&number);
+            refusals += usize::from(number != 0);
+            pairs.push((line, given));
+        }
+        if (pairs.len() >= EACH || i > 5_000) && missing.is_empty() {
+            return pairs;
+        }
+    }
+    pairs
+}
+
+/// Writes the list and its answers as FOLDER/stdin and FOLDER/stdout.
+pub fn record(folder: &str) -> bool {
+    let mut pairs: Vec<(String, String)> = worked()
+        .iter()
+        .map(|line| {
+            let call = Call::parse(line);
+            let given = answer(&call);
+            (marked(&call, &given), given)
+        })
+        .collect();
+    for (i, (name, numbers)) in CALLS.iter().enumerate() {
+        pairs.extend(chosen(name, numbers, 1_000_000 * (i as u64 + 1)));
+    }
+    let text = |lines: Vec<&String>| lines.iter().fold(String::new(), |text, line| text + line + "\n");
+    let stdin = text(pairs.iter().map(|p| &p.0).collect());
+    let stdout = text(pairs.iter().map(|p| &p.1).collect());
+    println!("{} calls of {} functions: {} and {} characters", pairs.len(), CALLS.len(), stdin.len(), stdout.len());
+    std::fs::write(format!("{folder}/stdin"), stdin).is_ok() && std::fs::write(format!("{folder}/stdout"), stdout).is_ok()
+}

@@ -130,7 +130,7 @@ pub fn flat(r: &mut Random, large_once_in: usize) -> Vec<u8> {
         for _ in 0..16 {
             push(9, &[0x66; 65_524]);
         }
-        let n = r.below(10);
+        let n = r.below(300);
         push(9, &vec![0x77; n]);
     }
     for (tag, value) in messages::list(r, true, true) {

@@ -132,7 +132,7 @@ impl Maker<'_> {
     /// Octets that may be over the bound.
     fn bounded(&mut self, octets: Vec<u8>) {
         let large = self.large();
-        let octets = if large { vec![self.r.octet(); 1_048_575 + self.r.below(3)] } else { octets };
+        let octets = if large { vec![self.r.octet(); 1_048_576 + self.r.below(2)] } else { octets };
         self.octets(octets);
     }
     /// A value that may be over the bound of values.
@@ -460,7 +460,7 @@ impl Maker<'_> {
                     list.insert(at, (tag, value));
                 }
                 if name.ends_with("_address") && self.large() {
-                    list.insert(0, (tag, vec![0; 1_048_575 + self.r.below(3)]));
+                    list.insert(0, (tag, vec![0; 1_048_576 + self.r.below(2)]));
                 }
                 let (table, values, count) = self.records(list);
                 self.number(count);

@@ -1,0 +1,68 @@
+-- `replay::print::tags` is safe and ends.
+use Prim.Native.Nat.{_≤_, _-_}
+use mathlib.Core.Path.{_≡_}
+use lib.ListN.{length}
+use borrow.Author.Needs.{needs}
+use Rattle.replay.proofs.print.tags.Statement.{statement}
+use Rattle.replay.proofs.print.tags.Tie as tie
+
+abbrev Inv-loop : tie.InvT-loop
+Inv-loop list at line₀ to₀ i₀ line to i = (length line ≡ length line₀) × (i ≤ length list)
+
+abbrev μ-loop : tie.MeasureT-loop
+μ-loop list at line₀ to₀ i₀ line to i = length list - i
+
+slice-aggregate-word : tie.Need-slice-aggregate-word Inv-loop μ-loop
+slice-aggregate-word c = search needs
+
+word-requires : tie.Need-word-requires Inv-loop μ-loop
+word-requires c κs = search needs
+
+loop-holds : tie.Need-loop-holds Inv-loop μ-loop
+loop-holds c = search needs
+
+mul-wide-two : tie.Need-mul-wide-two Inv-loop μ-loop
+mul-wide-two c = search needs
+
+shared-slice-read-wide-two : tie.Need-shared-slice-read-wide-two Inv-loop μ-loop
+shared-slice-read-wide-two c = search needs
+
+wide-two-requires : tie.Need-wide-two-requires Inv-loop μ-loop
+wide-two-requires c κs = search needs
+
+item-requires : tie.Need-item-requires Inv-loop μ-loop
+item-requires c κs = search needs
+
+add-i : tie.Need-add-i Inv-loop μ-loop
+add-i c = search needs
+
+loop-less : tie.Need-loop-less Inv-loop μ-loop
+loop-less c = search needs
+
+loop-again : tie.Need-loop-again Inv-loop μ-loop
+loop-again c = search needs
+
+same-length : tie.Need-same-length Inv-loop μ-loop
+same-length c = search needs
+
+returns : tie.Need-returns Inv-loop μ-loop
+returns c = search needs
+
+pub tags-spec : {M : Type 1} → statement M
+tags-spec =
+    tie.close
+    (tie.spec
+    Inv-loop
+    μ-loop
+    slice-aggregate-word
+    word-requires
+    loop-holds
+    mul-wide-two
+    shared-slice-read-wide-two
+    wide-two-requires
+    item-requires
+    add-i
+    loop-less
+    loop-again
+    same-length
+    returns)

@@ -9,7 +9,7 @@ use Rattle.parameter.specs.Walk.{headed, stepAt, steps, places, parameters}
 use Rattle.parameter.specs.Table.{table, room, tabulate, rows, recordIn, records, findParam}
 use Rattle.address.specs.Address.{pieceIn, addressWith, addressIn, readAddress}
 use Rattle.address.specs.Listing.{addressPlaces, listAddress}
-use Rattle.message.specs.PointCodes.{codesIn}
+use Rattle.pieces.specs.PointCodes.{codesIn}
 use Rattle.message.specs.Accessors.{firstRead, routingContext, protocolClass, sccpCause, dataPart, affectedPointCodes, listAddressAt, addressFound, sourceAddress}
 
 -- Three octets, and four.

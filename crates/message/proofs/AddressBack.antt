@@ -25,8 +25,8 @@ use Rattle.address.proofs.Tabling.{places-known}
 use Rattle.address.proofs.TableBack.{list-inv, others-inside, written-again}
 use Rattle.message.specs.Accessors.{moved, listAddressAt, addressFound}
 use Rattle.message.specs.Back.{Back}
-use Rattle.message.proofs.Accessing.{find-inside, value-octets}
-use Rattle.message.proofs.Addresses.{tabulate-fits, tabulate-small}
+use Rattle.lookup.proofs.Accessing.{find-inside, value-octets}
+use Rattle.lookup.proofs.Addresses.{tabulate-fits, tabulate-small}
 
 -- A part of a part is a part.
 part-part : (l s n : ℕ) (w : List ℕ) → s + l ≤ n → take l (drop s (take n w)) ≡ take l (drop s w)

@@ -24,8 +24,8 @@ use Rattle.address.proofs.Tabling.{places-known}
 use Rattle.address.proofs.TableBack.{others, others-count, others-inside, routing}
 use Rattle.message.specs.Accessors.{moved, listAddressAt, addressFound}
 use Rattle.message.specs.Back.{Shows}
-use Rattle.message.proofs.Accessing.{find-inside, value-octets}
-use Rattle.message.proofs.Addresses.{tableOf, tabulate-fits, tabulate-small, address-there}
+use Rattle.lookup.proofs.Accessing.{find-inside, value-octets}
+use Rattle.lookup.proofs.Addresses.{tableOf, tabulate-fits, tabulate-small, address-there}
 use Rattle.message.proofs.AddressBack.{values-moved, inside-moved}
 
 module _ (values : List ℕ) (p : Place) (inside : p .start + p .length ≤ length values) (t : Table) {s : Parts} (y : Read (valued values p .value) s) where

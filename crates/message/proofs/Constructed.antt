@@ -26,7 +26,8 @@ use Rattle.message.specs.Message.{Message, readMessage}
 use Rattle.message.specs.Listing.{Listed, listMessage}
 use Rattle.message.specs.Accessors.{ofFour, readAt, firstRead, fourth, shown, addressFound, sourceAddress, destinationAddress}
 use Rattle.message.specs.Back.{foldAddress, Other, ReadsWith, CldtBack, Shows}
-use Rattle.message.specs.Constructors.{written, number, octet, given, cldt}
+use Rattle.pieces.specs.Parts.{number, given}
+use Rattle.message.specs.Constructors.{written, octet, cldt}
 use Rattle.message.proofs.Messages.{written-reads}
 use Rattle.message.proofs.Standing.{message-listed}
 use Rattle.message.proofs.AddressStands.{accessor-shows}

@@ -10,7 +10,7 @@ use Rattle.address.specs.Records.{withSsnPc}
 use Rattle.address.specs.Given.{encodeAddressAs}
 use Rattle.message.specs.declared.types.MessageType.the-variants as M
 use Rattle.message.specs.Message.{messageOctets, writeMessage}
-use Rattle.message.specs.PointCodes.{codesOctets}
+use Rattle.pieces.specs.PointCodes.{codesOctets}
 use Rattle.message.specs.Constructors.{cldt, errorMessage, snm}
 
 abbrev noOthers : Table

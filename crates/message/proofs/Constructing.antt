@@ -13,9 +13,8 @@ use Rattle.parameter.specs.Parameter.{writable}
 use Rattle.message.specs.declared.types.MessageType.{MessageType}
 use Rattle.message.specs.declared.header.CommonHeader.{CommonHeader}
 use Rattle.message.specs.Message.{headerWith, headerOctets, writeHeader}
-use Rattle.message.specs.Steps.Parts.{Placeable}
 use Rattle.message.proofs.Listing.{framed, framed-length}
-use Rattle.message.proofs.Placing.{placed-behind, wrote}
+use Rattle.pieces.proofs.Placing.{wrote}
 
 -- A message of so many octets: those of hs, whatever o is, behind the header, and then those of o.
 pub record Made (m : MessageType) (hs : List ℕ) (o whole : Outcome (List ℕ)) (run total : ℕ) : Type 0 where
@@ -65,10 +64,6 @@ module _ {m : MessageType} {hs : List ℕ} {o whole : Outcome (List ℕ)} {run t
   module _ (h : CommonHeader) {d : List ℕ} (b : Begun out (headerOctets h ++ hs) d) (at : ℕ) (place : length (headerOctets h ++ hs) ≡ at) (fits : total ≤ length out) where
     room : at + length (k .octets) ≤ length out
     room = omega (arith, k .sum, k .size, length-append (headerOctets h) hs)
-
-    -- room for the rest
-    pub made-ready : Placeable o (length (midOf at (length d - at) d))
-    made-ready = placed-behind at o (k .octets) b (k .encoded) room
 
     pub made-done :
         {last : List ℕ} {a : Outcome ℕ}

@@ -6,15 +6,11 @@ pub mod Framing
 pub mod Messages
 pub mod Listing
 pub mod Standing
-pub mod PointCodes
-pub mod Placing
 pub mod Constructing
 pub mod Addressing
 pub mod GivenBack
 pub mod Constructed
 pub mod ConstructedWorked
-pub mod Accessing
-pub mod Addresses
 pub mod AddressBack
 pub mod AddressStands
 pub mod Accessed

@@ -4,34 +4,23 @@
 use Prim.Native.Nat.{ℕ}
 use mathlib.Core.Bool.{Bool}
 use mathlib.Core.List.{List, [], _∷_, _++_}
-use Rattle.bcd.specs.Outcome.{Outcome, pick, after}
-use Rattle.parameter.specs.Parameter.{Param, param, four}
+use Rattle.bcd.specs.Outcome.{Outcome, after}
+use Rattle.parameter.specs.Parameter.{Param, param}
 use Rattle.parameter.specs.Table.{Table}
 use Rattle.address.specs.declared.SuaAddress.{SuaAddress}
 use Rattle.address.specs.Given.{encodeAddressAs}
+use Rattle.pieces.specs.Parts.{number, given, affected}
 use Rattle.message.specs.declared.types.MessageType.{MessageType}
 use Rattle.message.specs.declared.types.MessageType.the-variants as M
 use Rattle.message.specs.Message.{message, writeMessage}
-use Rattle.message.specs.PointCodes.{codesOctets}
 
 -- The octets of a type and a list of parameters.
 abbrev pub written : MessageType → List Param → Outcome (List ℕ)
 written m ps = writeMessage (message m ps)
 
--- A parameter of a 32-bit number, and of three reserved octets and one of value (RFC 3868, 3.9, 3.10).
-abbrev pub number : (tag n : ℕ) → Param
-number tag n = param tag (four n)
-
+-- A parameter of three reserved octets and one of value (RFC 3868, 3.9, 3.10).
 abbrev pub octet : (tag n : ℕ) → Param
 octet tag n = param tag (0 ∷ 0 ∷ 0 ∷ n ∷ [])
-
--- A parameter that its flag says is given.
-abbrev pub given : Bool → Param → List Param
-given there p = pick there (p ∷ []) []
-
--- The point codes of a parameter (RFC 3868, 3.9).
-abbrev pub affected : (codes : List ℕ) → Param
-affected codes = param 0x0012 (codesOctets codes)
 
 -- CLDT (RFC 3868, 3.2.1): routing context, protocol class, source and destination address, sequence control, SS7 hop counter,
 -- data.

@@ -3,7 +3,6 @@ pub mod Types
 pub mod Message
 pub mod Listing
 pub mod Standing
-pub mod PointCodes
 pub mod Accessors
 pub mod Constructors
 pub mod Back

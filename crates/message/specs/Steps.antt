@@ -1,3 +1,2 @@
 -- Steps of the code between its public calls. No public contract of this crate cites these.
-pub mod Octets
 pub mod Parts

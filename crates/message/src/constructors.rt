@@ -2,17 +2,17 @@
 // the source's, the destination's, further 10 in order, 14; no message is long enough for 12.
 use crate::SuaMessage;
 use crate::header::CommonHeader;
-use crate::parts::Part;
-use crate::parts::addressed_length;
-use crate::parts::put_numbers;
-use crate::parts::run_length;
-use crate::parts::write_addressed;
-use crate::parts::write_run;
 use crate::types::MessageType;
 use address::SuaAddress;
 use bcd::error::Counted;
 use bcd::error::Refusal;
 use parameter::tags;
+use pieces::Part;
+use pieces::addressed_length;
+use pieces::run_length;
+use pieces::write_addressed;
+use pieces::write_numbers;
+use pieces::write_run;
 ghost use mathlib.Core.Path.{_≡_};
 ghost use mathlib.Core.List.{[]};
 ghost use Rattle.bcd.specs.Outcome.{delivered, deliver};
@@ -22,7 +22,8 @@ ghost use Rattle.address.specs.Given.{encodeAddressAs};
 ghost use Rattle.message.specs.declared.types.MessageType.the-variants as M;
 ghost use Rattle.message.specs.Constructors.{written, aspUp, infoOnly, trafficAndRc, rcOnly, heartbeatLike};
 ghost use Rattle.message.specs.Constructors.{errorMessage, notify, snm, cldt, cldr};
-ghost use Rattle.message.specs.Steps.Parts.{runParams, connectionless};
+ghost use Rattle.pieces.specs.Parts.{runParams};
+ghost use Rattle.message.specs.Steps.Parts.{connectionless};
 
 // The SS7 hop counter that a CLDT starts with (RFC 3868, 3.10.1).
 pub const DEFAULT_HOP_COUNTER: u8 = 15;
@@ -200,7 +201,7 @@ fn connectionless(
                 return Counted::Refused(Refusal::OutputTooSmall(total));
             }
             CommonHeader::new(message_type, total as u32).encode(out);
-            put_numbers(routing_context, tag, n, &mut out[8..]);
+            write_numbers(routing_context, tag, n, &mut out[8..]);
             write_addressed(
                 src,
                 sv,

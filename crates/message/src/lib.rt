@@ -2,14 +2,13 @@
 pub mod accessors;
 pub mod constructors;
 pub mod header;
-mod parts;
-pub mod point_codes;
 pub mod types;
 
 use bcd::error::Counted;
 use bcd::error::Refusal;
 use header::CommonHeader;
 use header::HeaderRead;
+pub use pieces::point_codes;
 use types::MessageType;
 ghost use mathlib.Core.Path.{_≡_};
 ghost use Prim.Native.Nat.{_≤_};

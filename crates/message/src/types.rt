@@ -75,16 +75,17 @@ impl MessageClass {
     pub fn from_u8(value: u8) -> ClassRead
         ensures { λ r. ⌜ classReadOf r ≡ fromOctet value ⌝ }
     {
-        match value {
-            0 => ClassRead::Class(Self::Management),
-            2 => ClassRead::Class(Self::Snm),
-            3 => ClassRead::Class(Self::Aspsm),
-            4 => ClassRead::Class(Self::Asptm),
-            7 => ClassRead::Class(Self::ConnectionLess),
-            8 => ClassRead::Class(Self::ConnectionOriented),
-            9 => ClassRead::Class(Self::Rkm),
-            _ => ClassRead::Refused(Refusal::InvalidMessageClass(value)),
-        }
+        let class = match value {
+            0 => Self::Management,
+            2 => Self::Snm,
+            3 => Self::Aspsm,
+            4 => Self::Asptm,
+            7 => Self::ConnectionLess,
+            8 => Self::ConnectionOriented,
+            9 => Self::Rkm,
+            _ => return ClassRead::Refused(Refusal::InvalidMessageClass(value)),
+        };
+        ClassRead::Class(class)
     }
 }
 
@@ -99,98 +100,105 @@ fn unknown(class: u8, msg_type: u8) -> TypeRead
 fn management(msg_type: u8) -> TypeRead
     ensures { λ r. ⌜ typeReadOf r ≡ fromClassType 0 «msg_type» ⌝ }
 {
-    match msg_type {
-        0 => TypeRead::Type(MessageType::Error),
-        1 => TypeRead::Type(MessageType::Notify),
-        2..=255 => unknown(0, msg_type),
-    }
+    let found = match msg_type {
+        0 => MessageType::Error,
+        1 => MessageType::Notify,
+        2..=255 => return unknown(0, msg_type),
+    };
+    TypeRead::Type(found)
 }
 
 // The types of class 2, signalling network management.
 fn snm(msg_type: u8) -> TypeRead
     ensures { λ r. ⌜ typeReadOf r ≡ fromClassType 2 «msg_type» ⌝ }
 {
-    match msg_type {
-        1 => TypeRead::Type(MessageType::Duna),
-        2 => TypeRead::Type(MessageType::Dava),
-        3 => TypeRead::Type(MessageType::Daud),
-        4 => TypeRead::Type(MessageType::Scon),
-        5 => TypeRead::Type(MessageType::Dupu),
-        6 => TypeRead::Type(MessageType::Drst),
-        0 | 7..=255 => unknown(2, msg_type),
-    }
+    let found = match msg_type {
+        1 => MessageType::Duna,
+        2 => MessageType::Dava,
+        3 => MessageType::Daud,
+        4 => MessageType::Scon,
+        5 => MessageType::Dupu,
+        6 => MessageType::Drst,
+        0 | 7..=255 => return unknown(2, msg_type),
+    };
+    TypeRead::Type(found)
 }
 
 // The types of class 3, ASP state maintenance.
 fn aspsm(msg_type: u8) -> TypeRead
     ensures { λ r. ⌜ typeReadOf r ≡ fromClassType 3 «msg_type» ⌝ }
 {
-    match msg_type {
-        1 => TypeRead::Type(MessageType::AspUp),
-        2 => TypeRead::Type(MessageType::AspDown),
-        3 => TypeRead::Type(MessageType::Heartbeat),
-        4 => TypeRead::Type(MessageType::AspUpAck),
-        5 => TypeRead::Type(MessageType::AspDownAck),
-        6 => TypeRead::Type(MessageType::HeartbeatAck),
-        0 | 7..=255 => unknown(3, msg_type),
-    }
+    let found = match msg_type {
+        1 => MessageType::AspUp,
+        2 => MessageType::AspDown,
+        3 => MessageType::Heartbeat,
+        4 => MessageType::AspUpAck,
+        5 => MessageType::AspDownAck,
+        6 => MessageType::HeartbeatAck,
+        0 | 7..=255 => return unknown(3, msg_type),
+    };
+    TypeRead::Type(found)
 }
 
 // The types of class 4, ASP traffic maintenance.
 fn asptm(msg_type: u8) -> TypeRead
     ensures { λ r. ⌜ typeReadOf r ≡ fromClassType 4 «msg_type» ⌝ }
 {
-    match msg_type {
-        1 => TypeRead::Type(MessageType::AspActive),
-        2 => TypeRead::Type(MessageType::AspInactive),
-        3 => TypeRead::Type(MessageType::AspActiveAck),
-        4 => TypeRead::Type(MessageType::AspInactiveAck),
-        0 | 5..=255 => unknown(4, msg_type),
-    }
+    let found = match msg_type {
+        1 => MessageType::AspActive,
+        2 => MessageType::AspInactive,
+        3 => MessageType::AspActiveAck,
+        4 => MessageType::AspInactiveAck,
+        0 | 5..=255 => return unknown(4, msg_type),
+    };
+    TypeRead::Type(found)
 }
 
 // The types of class 7, connectionless messages.
 fn connection_less(msg_type: u8) -> TypeRead
     ensures { λ r. ⌜ typeReadOf r ≡ fromClassType 7 «msg_type» ⌝ }
 {
-    match msg_type {
-        1 => TypeRead::Type(MessageType::Cldt),
-        2 => TypeRead::Type(MessageType::Cldr),
-        0 | 3..=255 => unknown(7, msg_type),
-    }
+    let found = match msg_type {
+        1 => MessageType::Cldt,
+        2 => MessageType::Cldr,
+        0 | 3..=255 => return unknown(7, msg_type),
+    };
+    TypeRead::Type(found)
 }
 
 // The types of class 8, connection-oriented messages.
 fn connection_oriented(msg_type: u8) -> TypeRead
     ensures { λ r. ⌜ typeReadOf r ≡ fromClassType 8 «msg_type» ⌝ }
 {
-    match msg_type {
-        1 => TypeRead::Type(MessageType::Core),
-        2 => TypeRead::Type(MessageType::Coak),
-        3 => TypeRead::Type(MessageType::Coref),
-        4 => TypeRead::Type(MessageType::Relre),
-        5 => TypeRead::Type(MessageType::Relco),
-        6 => TypeRead::Type(MessageType::Resco),
-        7 => TypeRead::Type(MessageType::Resre),
-        8 => TypeRead::Type(MessageType::Codt),
-        9 => TypeRead::Type(MessageType::Coda),
-        10 => TypeRead::Type(MessageType::Coerr),
-        11 => TypeRead::Type(MessageType::Coit),
-        0 | 12..=255 => unknown(8, msg_type),
-    }
+    let found = match msg_type {
+        1 => MessageType::Core,
+        2 => MessageType::Coak,
+        3 => MessageType::Coref,
+        4 => MessageType::Relre,
+        5 => MessageType::Relco,
+        6 => MessageType::Resco,
+        7 => MessageType::Resre,
+        8 => MessageType::Codt,
+        9 => MessageType::Coda,
+        10 => MessageType::Coerr,
+        11 => MessageType::Coit,
+        0 | 12..=255 => return unknown(8, msg_type),
+    };
+    TypeRead::Type(found)
 }
 
 // The types of class 9, routing key management.
 fn rkm(msg_type: u8) -> TypeRead
     ensures { λ r. ⌜ typeReadOf r ≡ fromClassType 9 «msg_type» ⌝ }
 {
-    match msg_type {
-        1 => TypeRead::Type(MessageType::RegReq),
-        2 => TypeRead::Type(MessageType::RegRsp),
-        3 => TypeRead::Type(MessageType::DeregReq),
-        4 => TypeRead::Type(MessageType::DeregRsp),
-        0 | 5..=255 => unknown(9, msg_type),
-    }
+    let found = match msg_type {
+        1 => MessageType::RegReq,
+        2 => MessageType::RegRsp,
+        3 => MessageType::DeregReq,
+        4 => MessageType::DeregRsp,
+        0 | 5..=255 => return unknown(9, msg_type),
+    };
+    TypeRead::Type(found)
 }
 
 impl MessageType {

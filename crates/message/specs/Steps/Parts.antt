@@ -1,50 +1,11 @@
--- The parts of a message between the constructors and the octets.
-use Prim.Native.Nat.{ℕ, _≤_}
-use mathlib.Core.Path.{_≡_}
-use mathlib.Core.List.{List, [], _∷_, _++_}
-use lib.ListN.{length}
-use Rattle.bcd.specs.Outcome.{Outcome, accepted, after, each}
-use Rattle.parameter.specs.Parameter.{Param, encodeParam, param}
-use Rattle.parameter.specs.Table.{Table}
-use Rattle.address.specs.declared.SuaAddress.{SuaAddress}
-use Rattle.address.specs.Given.{encodeAddressAs}
+-- Connectionless messages between the constructors and the octets.
+use Prim.Native.Nat.{ℕ}
+use mathlib.Core.List.{List, _∷_}
+use Rattle.bcd.specs.Outcome.{Outcome, after}
+use Rattle.parameter.specs.Parameter.{Param, param}
+use Rattle.pieces.specs.Parts.{number}
 use Rattle.message.specs.declared.types.MessageType.{MessageType}
-use Rattle.message.specs.declared.parts.Part.{Part}
-use Rattle.message.specs.declared.parts.Part.the-variants as P
-use Rattle.message.specs.Constructors.{written, number, given, affected}
-
--- The parameters that a part is: none or one.
-abbrev pub partParams : Part → (octets codes : List ℕ) → List Param
-partParams P.Absent octets codes = []
-partParams (P.Number there tag n) octets codes = given there (number tag n)
-partParams (P.Octets there tag) octets codes = given there (param tag octets)
-partParams P.Codes octets codes = affected codes ∷ []
-
--- Three parts in a row.
-abbrev pub runParams : (first second third : Part) → (octets codes : List ℕ) → List Param
-runParams first second third octets codes =
-    partParams first octets codes ++ (partParams second octets codes ++ partParams third octets codes)
-
--- Octets that are written, into so much room.
-pub record Placeable (o : Outcome (List ℕ)) (room : ℕ) : Type 0 where
-  pub octets : List ℕ
-  pub encoded : o ≡ accepted octets
-  pub fits : length octets ≤ room
-
--- Three parts in a row, written.
-abbrev pub runWritten : (first second third : Part) → (octets codes : List ℕ) → Outcome (List ℕ)
-runWritten first second third octets codes = each encodeParam (runParams first second third octets codes)
-
--- An address as a parameter.
-abbrev pub addressParam : (tag : ℕ) → SuaAddress → (values : List ℕ) → Table → Outcome (List ℕ)
-addressParam tag a values t = after (encodeAddressAs tag a values t) (λ w. encodeParam (param tag w))
-
--- The source, the destination, and the parameters that follow them.
-abbrev pub addressed : (source destination : Outcome (List ℕ)) → List Param → Outcome (List ℕ)
-addressed source destination ps =
-    after source (λ s.
-    after destination (λ d.
-    each encodeParam (param 0x0102 s ∷ param 0x0103 d ∷ ps)))
+use Rattle.message.specs.Constructors.{written}
 
 -- A connectionless message: the routing context, one more number, both addresses, and what follows them.
 abbrev pub connectionless : MessageType → (context tag n : ℕ) → (source destination : Outcome (List ℕ)) → List Param → Outcome (List ℕ)

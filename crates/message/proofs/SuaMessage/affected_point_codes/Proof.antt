@@ -13,9 +13,9 @@ use Rattle.parameter.specs.declared.Place.{Place}
 use Rattle.parameter.specs.Table.{Table, table, findParam}
 use Rattle.parameter.specs.Answers.{foundOf}
 use Rattle.message.specs.Accessors.{codesAt, affectedPointCodes}
-use Rattle.message.specs.PointCodes.{codesIn, storeCodes}
-use Rattle.message.proofs.Accessing.{find-inside, part-value}
-use Rattle.message.proofs.PointCodes.{store-refused, store-done}
+use Rattle.pieces.specs.PointCodes.{codesIn, storeCodes}
+use Rattle.lookup.proofs.Accessing.{find-inside, part-value}
+use Rattle.pieces.proofs.PointCodes.{store-refused, store-done}
 use Rattle.message.proofs.SuaMessage.affected_point_codes.Statement.{statement}
 use Rattle.message.proofs.SuaMessage.affected_point_codes.Tie as tie
 

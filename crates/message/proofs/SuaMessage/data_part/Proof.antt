@@ -8,7 +8,7 @@ use Rattle.parameter.specs.declared.table.Found.{Found}
 use Rattle.parameter.specs.Table.{Table, table}
 use Rattle.parameter.specs.Answers.{foundOf}
 use Rattle.message.specs.Accessors.{dataAt, shown}
-use Rattle.message.proofs.Accessing.{find-inside, part-value}
+use Rattle.lookup.proofs.Accessing.{find-inside, part-value}
 use Rattle.message.proofs.SuaMessage.data_part.Statement.{statement}
 use Rattle.message.proofs.SuaMessage.data_part.Tie as tie
 

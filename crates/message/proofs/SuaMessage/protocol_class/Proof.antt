@@ -7,8 +7,8 @@ use Rattle.bcd.specs.Outcome.{Outcome, mapped}
 use Rattle.bcd.proofs.Outcomes.{octets-of}
 use Rattle.parameter.specs.Table.{table}
 use Rattle.message.specs.Accessors.{fourth}
-use Rattle.message.specs.Steps.Octets.{fourthOctet}
-use Rattle.message.proofs.Accessing.{four-then, fourth-of}
+use Rattle.lookup.specs.Octets.{fourthOctet}
+use Rattle.lookup.proofs.Accessing.{four-then, fourth-of}
 use Rattle.message.proofs.SuaMessage.protocol_class.Statement.{statement}
 use Rattle.message.proofs.SuaMessage.protocol_class.Tie as tie
 

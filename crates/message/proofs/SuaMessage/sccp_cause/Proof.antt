@@ -7,8 +7,8 @@ use Rattle.bcd.specs.Outcome.{Outcome, mapped}
 use Rattle.bcd.proofs.Outcomes.{octets-of}
 use Rattle.parameter.specs.Table.{table}
 use Rattle.message.specs.Accessors.{causeIn}
-use Rattle.message.specs.Steps.Octets.{causeOctets}
-use Rattle.message.proofs.Accessing.{four-then, cause-of}
+use Rattle.lookup.specs.Octets.{causeOctets}
+use Rattle.lookup.proofs.Accessing.{four-then, cause-of}
 use Rattle.message.proofs.SuaMessage.sccp_cause.Statement.{statement}
 use Rattle.message.proofs.SuaMessage.sccp_cause.Tie as tie
 

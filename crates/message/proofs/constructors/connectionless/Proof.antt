@@ -4,7 +4,7 @@ use mathlib.Core.Path.{_≡_, refl, sym, ap, _∙_}
 use mathlib.Core.List.{List, [], _∷_, _++_}
 use native.Mathlib.Omega.{arith}
 use lib.ListN.{length}
-use Rattle.bcd.specs.Outcome.{Outcome, accepted, after, mapped, each}
+use Rattle.bcd.specs.Outcome.{Outcome, after, mapped, each}
 use Rattle.bcd.specs.Answers.{countedOf}
 use Rattle.bcd.specs.declared.error.Counted.{Counted}
 use Rattle.bcd.proofs.Writing.{Begun}
@@ -12,12 +12,14 @@ use Rattle.parameter.specs.Parameter.{Param, encodeParam, writable}
 use Rattle.parameter.specs.Table.{table}
 use Rattle.address.specs.Given.{encodeAddressAs}
 use Rattle.message.specs.Message.{headerOctets}
-use Rattle.message.specs.Constructors.{number}
-use Rattle.message.specs.Steps.Parts.{runParams, addressed, connectionless}
+use Rattle.pieces.specs.Parts.{number}
+use Rattle.pieces.specs.Parts.{runParams, addressed}
+use Rattle.message.specs.Steps.Parts.{connectionless}
 use Rattle.message.proofs.Listing.{framed}
-use Rattle.message.proofs.Placing.{run-few, placed-behind, Wrote, wrote}
-use Rattle.message.proofs.Constructing.{made-refused, Made, made, headed, made-short, made-ready, made-done}
-use Rattle.message.proofs.Addressing.{Small, address-small, numbers, numbers-written, numbers-length, addressed-bounded, connectionless-framed}
+use Rattle.pieces.proofs.Placing.{run-few, Wrote, wrote}
+use Rattle.message.proofs.Constructing.{made-refused, Made, made, headed, made-short, made-done}
+use Rattle.pieces.proofs.Addressing.{Small, address-small, numbers, numbers-written, numbers-length, addressed-bounded}
+use Rattle.message.proofs.Addressing.{connectionless-framed}
 use borrow.Author.Needs.{needs}
 use Rattle.message.proofs.constructors.connectionless.Statement.{statement}
 use Rattle.message.proofs.constructors.connectionless.Tie as tie
@@ -47,7 +49,7 @@ abbrev whole : tie.Start → Outcome (List ℕ)
 whole s = connectionless (s .args .message-type) (s .args .routing-context) (s .args .tag) (s .args .n) (source s) (destination s) (params s)
 
 framing : (s : tie.Start) → whole s ≡ after (rest s) (λ os. writable (framed (s .args .message-type) (front s ++ os)))
-framing s = connectionless-framed (source s) (destination s) (params s) (source-small s) (destination-small s) (s .args .message-type) (s .args .routing-context) (s .args .tag) (s .args .n)
+framing s = connectionless-framed (source s) (destination s) (params s) (s .args .message-type) (s .args .routing-context) (s .args .tag) (s .args .n)
 
 abbrev start : tie.After-addressed-length → tie.Start
 start c = c .before .before .before .before .before .before .before .before .before .before .before
@@ -87,20 +89,20 @@ headered : (c : tie.After-encode) → Begun (begun c .args .out .now) (headerOct
 headered c = headed (c .before .before .new .result) (begun c .args .out .now) (omega (arith, room-of c .if1 .left)) (c .encode .ensures)
 
 -- the two numbers behind it
-abbrev header-of : tie.After-put-numbers → tie.After-encode
+abbrev header-of : tie.After-write-numbers → tie.After-encode
 header-of c = c .before .before .before .before
 
 numbered :
-    (c : tie.After-put-numbers)
-    → Wrote (begun (header-of c) .args .out .now) (headerOctets (header-of c .before .before .new .result)) (first (header-of c)) 8 (front (begun (header-of c))) (accepted (c .put-numbers .result)) (c .put-numbers .last .1 .1 .1 .0)
+    (c : tie.After-write-numbers)
+    → Wrote (begun (header-of c) .args .out .now) (headerOctets (header-of c .before .before .new .result)) (first (header-of c)) 8 (front (begun (header-of c))) (countedOf (c .write-numbers .result)) (c .write-numbers .last .1 .1 .1 .0)
 numbered c =
     let e = header-of c in
     let s = begun e in
     wrote 8 (each encodeParam (number 0x0006 (s .args .routing-context) ∷ number (s .args .tag) (s .args .n) ∷ [])) (front s) (headered e) refl
     (numbers-written (s .args .routing-context) (s .args .tag) (s .args .n))
-    (omega (arith, room-of e .if1 .left, numbers-length (s .args .routing-context) (s .args .tag) (s .args .n))) (c .put-numbers .ensures)
+    (omega (arith, room-of e .if1 .left, numbers-length (s .args .routing-context) (s .args .tag) (s .args .n))) (c .write-numbers .ensures)
 
-placed : (c : tie.After-put-numbers) → length (headerOctets (header-of c .before .before .new .result) ++ front (begun (header-of c))) ≡ 24
+placed : (c : tie.After-write-numbers) → length (headerOctets (header-of c .before .before .new .result) ++ front (begun (header-of c))) ≡ 24
 placed c =
     let s = begun (header-of c) in
     omega (arith, numbered c .place, numbers-length (s .args .routing-context) (s .args .tag) (s .args .n))
@@ -133,22 +135,17 @@ new-requires c κs = search needs
 encode-requires : tie.Need-encode-requires
 encode-requires c κs = search needs
 
-sub-put-numbers : tie.Need-sub-put-numbers
-sub-put-numbers c = search needs
+sub-write-numbers : tie.Need-sub-write-numbers
+sub-write-numbers c = search needs
 
-part-put-numbers-start : tie.Need-part-put-numbers-start
-part-put-numbers-start c = search needs
+part-write-numbers-start : tie.Need-part-write-numbers-start
+part-write-numbers-start c = search needs
 
-part-put-numbers-end : tie.Need-part-put-numbers-end
-part-put-numbers-end c = search needs
+part-write-numbers-end : tie.Need-part-write-numbers-end
+part-write-numbers-end c = search needs
 
-put-numbers-requires : tie.Need-put-numbers-requires
-put-numbers-requires c κs =
-    let e = c .before .before .before in
-    let s = begun e in
-    placed-behind 8 (each encodeParam (number 0x0006 (s .args .routing-context) ∷ number (s .args .tag) (s .args .n) ∷ [])) (front s) (headered e)
-    (numbers-written (s .args .routing-context) (s .args .tag) (s .args .n))
-    (omega (arith, room-of e .if1 .left, numbers-length (s .args .routing-context) (s .args .tag) (s .args .n)))
+write-numbers-requires : tie.Need-write-numbers-requires
+write-numbers-requires c κs = search needs
 
 sub-write-addressed : tie.Need-sub-write-addressed
 sub-write-addressed c = search needs
@@ -160,11 +157,7 @@ part-write-addressed-end : tie.Need-part-write-addressed-end
 part-write-addressed-end c = search needs
 
 write-addressed-requires : tie.Need-write-addressed-requires
-write-addressed-requires c κs =
-    let p = c .before .before .before in
-    let e = header-of p in
-    let i = room-of e in
-    made-ready (known (i .before)) (begun e .args .out .now) (e .before .before .new .result) (numbered p .begun) 24 (placed p) (i .if1 .left)
+write-addressed-requires c κs = search needs
 
 returns-2 : tie.Need-returns-2
 returns-2 c =
@@ -196,10 +189,10 @@ connectionless-spec =
     cast-new
     new-requires
     encode-requires
-    sub-put-numbers
-    part-put-numbers-start
-    part-put-numbers-end
-    put-numbers-requires
+    sub-write-numbers
+    part-write-numbers-start
+    part-write-numbers-end
+    write-numbers-requires
     sub-write-addressed
     part-write-addressed-start
     part-write-addressed-end

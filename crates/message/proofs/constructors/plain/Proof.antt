@@ -9,10 +9,10 @@ use Rattle.bcd.specs.Answers.{countedOf}
 use Rattle.bcd.specs.declared.error.Counted.{Counted}
 use Rattle.parameter.specs.Parameter.{Param}
 use Rattle.message.specs.Constructors.{written}
-use Rattle.message.specs.Steps.Parts.{runParams, runWritten}
+use Rattle.pieces.specs.Parts.{runParams, runWritten}
 use Rattle.message.proofs.Listing.{written-framed}
-use Rattle.message.proofs.Placing.{run-bounded}
-use Rattle.message.proofs.Constructing.{made-refused, Made, made, headed, made-short, made-ready, made-done}
+use Rattle.pieces.proofs.Placing.{run-bounded}
+use Rattle.message.proofs.Constructing.{made-refused, Made, made, headed, made-short, made-done}
 use borrow.Author.Needs.{needs}
 use Rattle.message.proofs.constructors.plain.Statement.{statement}
 use Rattle.message.proofs.constructors.plain.Tie as tie
@@ -87,12 +87,7 @@ part-write-run-end : tie.Need-part-write-run-end
 part-write-run-end c = search needs
 
 write-run-requires : tie.Need-write-run-requires
-write-run-requires c κs =
-    let e = c .before .before .before in
-    let i = e .before .before .before in
-    let s = start (measured (i .before)) in
-    let h = e .before .before .new .result in
-    made-ready (known (i .before)) (s .args .out .now) h (headed h (s .args .out .now) (omega (arith, i .if1 .left)) (e .encode .ensures)) 8 refl (i .if1 .left)
+write-run-requires c κs = search needs
 
 returns-2 : tie.Need-returns-2
 returns-2 c =

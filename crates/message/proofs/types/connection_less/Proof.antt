@@ -13,17 +13,17 @@ unknown-requires : tie.Need-unknown-requires
 unknown-requires c κs = search needs
 
 returns : tie.Need-returns
-returns c = reads-as T.Cldt 7 _ refl (c .match .keys1)
-
-returns-2 : tie.Need-returns-2
-returns-2 c = reads-as T.Cldr 7 _ refl (c .match .keys2)
-
-returns-3 : tie.Need-returns-3
 unfolding fromClassType
-returns-3 c =
+returns c =
     let t = c .before .before .args .msg-type in
     c .unknown .ensures
     ∙ ⊎-elim (λ w. rw (w .keys3)) (λ w. sym (other-type 7 t (2 ∷ 1 ∷ []) (w .rest .0) refl)) (c .before .match .came)
+
+returns-2 : tie.Need-returns-2
+returns-2 c = reads-as T.Cldt 7 _ refl (c .match .keys1)
+
+returns-3 : tie.Need-returns-3
+returns-3 c = reads-as T.Cldr 7 _ refl (c .match .keys2)
 
 pub connection-less-spec : {M : Type 1} → statement M
 connection-less-spec =

@@ -11,13 +11,13 @@ unknown-requires : tie.Need-unknown-requires
 unknown-requires c κs = search needs
 
 returns : tie.Need-returns
-returns c = reads-as T.Error 0 _ refl (c .match .keys1)
+returns c = c .unknown .ensures ∙ sym (other-type 0 (c .before .before .args .msg-type) (1 ∷ 0 ∷ []) (c .before .match .rest) refl)
 
 returns-2 : tie.Need-returns-2
-returns-2 c = reads-as T.Notify 0 _ refl (c .match .keys2)
+returns-2 c = reads-as T.Error 0 _ refl (c .match .keys1)
 
 returns-3 : tie.Need-returns-3
-returns-3 c = c .unknown .ensures ∙ sym (other-type 0 (c .before .before .args .msg-type) (1 ∷ 0 ∷ []) (c .before .match .rest) refl)
+returns-3 c = reads-as T.Notify 0 _ refl (c .match .keys2)
 
 pub management-spec : {M : Type 1} → statement M
 management-spec =

@@ -13,23 +13,23 @@ unknown-requires : tie.Need-unknown-requires
 unknown-requires c κs = search needs
 
 returns : tie.Need-returns
-returns c = reads-as T.RegReq 9 _ refl (c .match .keys1)
-
-returns-2 : tie.Need-returns-2
-returns-2 c = reads-as T.RegRsp 9 _ refl (c .match .keys2)
-
-returns-3 : tie.Need-returns-3
-returns-3 c = reads-as T.DeregReq 9 _ refl (c .match .keys3)
-
-returns-4 : tie.Need-returns-4
-returns-4 c = reads-as T.DeregRsp 9 _ refl (c .match .keys4)
-
-returns-5 : tie.Need-returns-5
 unfolding fromClassType
-returns-5 c =
+returns c =
     let t = c .before .before .args .msg-type in
     c .unknown .ensures
     ∙ ⊎-elim (λ w. rw (w .keys5)) (λ w. sym (other-type 9 t (4 ∷ 3 ∷ 2 ∷ 1 ∷ []) (w .rest .0) refl)) (c .before .match .came)
+
+returns-2 : tie.Need-returns-2
+returns-2 c = reads-as T.RegReq 9 _ refl (c .match .keys1)
+
+returns-3 : tie.Need-returns-3
+returns-3 c = reads-as T.RegRsp 9 _ refl (c .match .keys2)
+
+returns-4 : tie.Need-returns-4
+returns-4 c = reads-as T.DeregReq 9 _ refl (c .match .keys3)
+
+returns-5 : tie.Need-returns-5
+returns-5 c = reads-as T.DeregRsp 9 _ refl (c .match .keys4)
 
 pub rkm-spec : {M : Type 1} → statement M
 rkm-spec =

@@ -25,13 +25,14 @@ use Rattle.parameter.proofs.RoundTrip.{run-length-append}
 use Rattle.parameter.proofs.Reading.{parameters-room}
 use Rattle.address.specs.Address.{titleAt, Title, Piece, titleOctets, writeTitle, title, code, sub, other, present, subParam}
 use Rattle.address.specs.Records.{flagged}
-use Rattle.address.specs.Parts.{nothing, noted, noteAll, sooner}
-use Rattle.address.specs.Steps.Kept.{keptTitle, keptCode, keptSub, keptPieces}
+use Rattle.address.specs.Parts.{isKept, isShort, nothing, noted, noteAll, sooner}
+use Rattle.address.specs.Steps.Kept.{keptValue, keptTitle, keptCode, keptSub, keptPieces}
 use Rattle.address.specs.Listing.{otherPlaces}
 use Rattle.address.specs.Steps.Plan.{HeldIn, Walked}
 use Rattle.address.specs.declared.parts.Kept.{Kept}
+use Rattle.address.specs.declared.parts.Short.{Short}
 use Rattle.address.specs.declared.parts.Parts.{Parts}
-use Rattle.address.proofs.Keeping.{kinds, Inside}
+use Rattle.address.proofs.Keeping.{kinds, kinds-tagged, Inside}
 use Rattle.address.proofs.Interpreting.{by, others-length}
 
 pub each-one : {A B : Type 0} (f : A → Outcome (List B)) (x : A) → each f (x ∷ []) ≡ f x
@@ -114,16 +115,16 @@ flagged-small false t n e = let z : n ≡ 0 = accepted-inj e in omega arith
 -- A title that is kept, and none.
 pub title-there :
     (v : List ℕ) (k : Kept) (o : Outcome ℕ)
-    → k .there ≡ true
-    → o ≡ mapped runLength (subParam builtIn (title (titleAt builtIn (valued v (k .place) .value))))
+    → isKept k ≡ true
+    → o ≡ mapped runLength (subParam builtIn (title (titleAt builtIn (keptValue v k))))
     → o ≡ mapped runLength (each (subParam builtIn) (present title (keptTitle builtIn v k)))
-title-there v k o e h = rw e (h ∙ ap (mapped runLength) (sym (each-one (subParam builtIn) (title (titleAt builtIn (valued v (k .place) .value))))))
+title-there v k o e h = rw e (h ∙ ap (mapped runLength) (sym (each-one (subParam builtIn) (title (titleAt builtIn (keptValue v k))))))
 
 pub kept-small :
     (v : List ℕ) (k : Kept) (n : ℕ) → accepted n ≡ mapped runLength (each (subParam builtIn) (present title (keptTitle builtIn v k))) → n ≤ 140
-kept-small v k = flagged-small (k .there) (titleAt builtIn (valued v (k .place) .value))
+kept-small v k = flagged-small (isKept k) (titleAt builtIn (keptValue v k))
 
-pub title-absent : (v : List ℕ) (k : Kept) → k .there ≡ false → accepted 0 ≡ mapped runLength (each (subParam builtIn) (present title (keptTitle builtIn v k)))
+pub title-absent : (v : List ℕ) (k : Kept) → isKept k ≡ false → accepted 0 ≡ mapped runLength (each (subParam builtIn) (present title (keptTitle builtIn v k)))
 unfolding runLength
 title-absent v k e = rw e
 
@@ -136,28 +137,28 @@ pub record Sound (v : List ℕ) (s : Parts) : Type 0 where
 unlike : {b : Bool} {X : Type 0} → b ≡ true → b ≡ false → X
 unlike {b} e f = let z : _≡_ {A = Bool} true false = sym e ∙ f in let n : _≡_ {A = ℕ} 0 1 = cc in absurd (omega arith)
 
-sooner-none : (k : Kept) (p : Place) (least : ℕ) → sooner k p least .there ≡ false → (k .there ≡ false) × (least ≤ p .length)
-sooner-none k p least e = kept (k .there) refl
+sooner-none : (k : Short) (p : Place) (least : ℕ) → 0 < p .tag → isShort (sooner k p least) ≡ false → (isShort k ≡ false) × (least ≤ p .length)
+sooner-none k p least tagged e = kept (isShort k) refl
   where
-    long : k .there ≡ false → (least ≤ p .length) ⊎ (p .length < least) → (k .there ≡ false) × (least ≤ p .length)
+    long : isShort k ≡ false → (least ≤ p .length) ⊎ (p .length < least) → (isShort k ≡ false) × (least ≤ p .length)
     long f (inl h) = (f, h)
-    long f (inr h) = unlike {X = (k .there ≡ false) × (least ≤ p .length)} refl (rw (f, lt-ltb (p .length) least h) at e)
+    long f (inr h) = unlike {X = (isShort k ≡ false) × (least ≤ p .length)} refl (rw (f, lt-ltb (p .length) least h, lt-ltb 0 (p .tag) tagged) at e)
 
-    kept : (t : Bool) → k .there ≡ t → (k .there ≡ false) × (least ≤ p .length)
-    kept true f = unlike {X = (k .there ≡ false) × (least ≤ p .length)} refl (rw f at e)
+    kept : (t : Bool) → isShort k ≡ t → (isShort k ≡ false) × (least ≤ p .length)
+    kept true f = unlike {X = (isShort k ≡ false) × (least ≤ p .length)} refl (rw (f, f) at e)
     kept false f = long f (le-or-lt least (p .length))
 
 module _ (v : List ℕ) where
-  note-sound : (s : Parts) (p : Place) → Inside v p → (s .short .there ≡ false → Sound v s) → noted s p .short .there ≡ false → Sound v (noted s p)
+  note-sound : (s : Parts) (p : Place) → Inside v p → (isShort (s .short) ≡ false → Sound v s) → isShort (noted s p .short) ≡ false → Sound v (noted s p)
   unfolding noted
   note-sound s p h f =
-      kinds (λ a b c. by a b c s p .short .there ≡ false → Sound v (by a b c s p)) (p .tag)
-      (λ e. let (t, l) = sooner-none (s .short) p 8 e in let k = f t in record { title = λ u. (h, l); code = k .code; ssn = k .ssn })
-      (λ e. let (t, l) = sooner-none (s .short) p 4 e in let k = f t in record { title = k .title; code = λ u. (h, l); ssn = k .ssn })
-      (λ e. let (t, l) = sooner-none (s .short) p 4 e in let k = f t in record { title = k .title; code = k .code; ssn = λ u. (h, l) })
+      kinds-tagged (λ a b c. isShort (by a b c s p .short) ≡ false → Sound v (by a b c s p)) (p .tag)
+      (λ z e. let (t, l) = sooner-none (s .short) p 8 z e in let k = f t in record { title = λ u. (h, l); code = k .code; ssn = k .ssn })
+      (λ z e. let (t, l) = sooner-none (s .short) p 4 z e in let k = f t in record { title = k .title; code = λ u. (h, l); ssn = k .ssn })
+      (λ z e. let (t, l) = sooner-none (s .short) p 4 z e in let k = f t in record { title = k .title; code = k .code; ssn = λ u. (h, l) })
       (λ e. let k = f e in record { title = k .title; code = k .code; ssn = k .ssn })
 
-  notes-sound : (s : Parts) (ps : List Place) → All (Inside v) ps → (s .short .there ≡ false → Sound v s) → noteAll s ps .short .there ≡ false → Sound v (noteAll s ps)
+  notes-sound : (s : Parts) (ps : List Place) → All (Inside v) ps → (isShort (s .short) ≡ false → Sound v s) → isShort (noteAll s ps .short) ≡ false → Sound v (noteAll s ps)
   unfolding noteAll
   notes-sound s [] h f e = f e
   notes-sound s (p ∷ ps) h f e = notes-sound (noted s p) ps (h .1) (note-sound s p (h .0) f) e
@@ -173,7 +174,7 @@ module _ {v : List ℕ} {s : Parts} (k : Walked v s) where
   inside : All (Inside v) (k .places)
   inside = places-inside v 4 (k .places) (k .walked)
 
-  pub sound : s .short .there ≡ false → Sound v s
+  pub sound : isShort (s .short) ≡ false → Sound v s
   sound e =
       let none : Sound v nothing = record { title = λ t. unlike {X = _} t refl; code = λ t. unlike {X = _} t refl; ssn = λ t. unlike {X = _} t refl } in
       rw (k .parts) (notes-sound v nothing (k .places) inside (λ e. none) (rw (k .parts) at e))
@@ -264,8 +265,8 @@ module _ (v : List ℕ) (s : Parts) (ps : List Place) where
   rest = behind (keptCode v (s .code)) (keptSub v (s .ssn)) (map (valued v) (otherPlaces ps))
 
   pub rest-length :
-      runLength rest ≡ pick (s .code .there) 8 0 + (pick (s .ssn .there) 8 0 + runLength (map (valued v) (otherPlaces ps)))
-  rest-length = behind-length (s .code .there) (s .ssn .there) _ _ (map (valued v) (otherPlaces ps))
+      runLength rest ≡ pick (isKept (s .code)) 8 0 + (pick (isKept (s .ssn)) 8 0 + runLength (map (valued v) (otherPlaces ps)))
+  rest-length = behind-length (isKept (s .code)) (isKept (s .ssn)) _ _ (map (valued v) (otherPlaces ps))
 
   pub kept-written :
       (qs : List Param)

@@ -17,11 +17,12 @@ use Rattle.bcd.proofs.Characters.{builtIn-lawful}
 use Rattle.parameter.specs.Parameter.{Param, two, runOctets, runLength, mostValue, twoAt}
 use Rattle.parameter.proofs.RoundTrip.{run-length, run-length-append}
 use Rattle.address.specs.Address.{Address, Piece, title, present, addressWith, addressIn, readAddress, indicator, pieces, subParam, sized, writeAddress}
+use Rattle.address.specs.Parts.{isKept}
 use Rattle.address.specs.Steps.Kept.{keptTitle, keptPieces}
 use Rattle.address.specs.Steps.Plan.{Read, wireOf, Plan, PlanOf}
 use Rattle.address.specs.declared.parts.Parts.{Parts}
 use Rattle.address.specs.declared.interpret.Planned.the-variants as P
-use Rattle.address.proofs.Keeping.{pieceAt}
+use Rattle.address.proofs.Keeping.{pieceAt, places-behind}
 use Rattle.address.proofs.Interpreting.{kept-pieces}
 use Rattle.address.proofs.Planning.{rest, rest-length, kept-written, kept-refused, others-sum}
 use Rattle.address.proofs.Interpreted.{address, read-whole}
@@ -56,7 +57,7 @@ module _ {v : List ℕ} {s : Parts} (r : Read v s) (tag : ℕ) where
   written-again = ap (λ (o : Outcome Address). after o (writeAddress builtIn tag)) (read-whole r)
 
   pieces-known : pieces (address (r .known)) ≡ keptPieces builtIn v s (r .known .places)
-  pieces-known = rw (r .known .parts) (kept-pieces builtIn v (r .known .places) (twoAt v 0) (getD v 3 0))
+  pieces-known = rw (r .known .parts) (kept-pieces builtIn v (r .known .places) (places-behind v (r .known .places) (r .known .walked)) (twoAt v 0) (getD v 3 0))
 
   -- The title's digits refuse.
   pub plan-unknown :
@@ -84,7 +85,7 @@ wire-length v qs = omega (arith, run-length qs)
 -- The sum of the parts' lengths is that of the octets.
 module _ {v : List ℕ} {s : Parts} (r : Read v s) (n total : ℕ)
     (titled : accepted n ≡ mapped runLength (each (subParam builtIn) (present title (keptTitle builtIn v (s .title)))))
-    (sum : total ≡ 4 + n + pick (s .code .there) 8 0 + pick (s .ssn .there) 8 0 + s .«other_length») where
+    (sum : total ≡ 4 + n + pick (isKept (s .code)) 8 0 + pick (isKept (s .ssn)) 8 0 + s .«other_length») where
   record Summed : Type 0 where
     params : List Param
     written : each (subParam builtIn) (keptPieces builtIn v s (r .known .places)) ≡ accepted params

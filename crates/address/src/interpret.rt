@@ -3,11 +3,11 @@ use crate::Routing;
 use crate::RoutingIndicator;
 use crate::parts::Kept;
 use crate::parts::Parts;
+use crate::parts::Short;
 use crate::parts::Surveyed;
 use crate::parts::survey;
 use bcd::error::Counted;
 use bcd::error::Refusal;
-use parameter::Place;
 use parameter::be16;
 use parameter::tags;
 ghost use mathlib.Core.Path.{_≡_};
@@ -29,11 +29,11 @@ pub(crate) enum Planned {
 }
 
 // Why a sub-parameter is too short: a title has eight octets, a point code and an SSN four.
-fn too_short(place: Place) -> Refusal
-    ensures { λ r. ⌜ numbered r ≡ shortNumbers place ⌝ }
+fn too_short(short: Short) -> Refusal
+    ensures { λ r. ⌜ numbered r ≡ shortNumbers short ⌝ }
 {
-    let tag = place.tag;
-    let length = place.length;
+    let tag = short.tag;
+    let length = short.length;
     if tag == tags::GLOBAL_TITLE {
         return Refusal::TooShort {
             expected: 8,
@@ -69,10 +69,9 @@ fn title_length(value: &[u8], kept: Kept) -> Counted
         countedOf r
         ≡ mapped runLength (each (subParam builtIn) (present title (keptTitle builtIn (now (value .entry)) kept))) ⌝ }
 {
-    if kept.there {
-        let place = kept.place;
-        let start = place.start;
-        let end = start + place.length;
+    if 0 < kept.start {
+        let start = kept.start;
+        let end = start + kept.length;
         return measure_title(&value[start..end]);
     }
     Counted::Count(0)
@@ -98,8 +97,8 @@ fn measure(tag: u16, value: &[u8], parts: Parts) -> Planned
             let ssn = parts.ssn;
             let length = 4
                 + n
-                + four_length(code.there)
-                + four_length(ssn.there)
+                + four_length(0 < code.start)
+                + four_length(0 < ssn.start)
                 + parts.other_length;
             if 65531 < length {
                 return Planned::Refused(Refusal::ValueTooLong { tag, length });
@@ -131,9 +130,8 @@ fn read(value: &[u8]) -> Surveyed
         Surveyed::Refused(r) => Surveyed::Refused(r),
         Surveyed::Parts(parts) => {
             let short = parts.short;
-            if short.there {
-                let place = short.place;
-                return Surveyed::Refused(too_short(place));
+            if 0 < short.tag {
+                return Surveyed::Refused(too_short(short));
             }
             Surveyed::Parts(parts)
         }

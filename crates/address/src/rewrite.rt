@@ -88,10 +88,9 @@ fn write_title(value: &[u8], kept: Kept, out: &mut [u8]) -> usize
         (mapped runOctets (each (subParam builtIn) (present title (keptTitle builtIn (now (value .entry)) kept))))
         (now (out .entry)) ⌝ }
 {
-    if kept.there {
-        let place = kept.place;
-        let start = place.start;
-        let end = start + place.length;
+    if 0 < kept.start {
+        let start = kept.start;
+        let end = start + kept.length;
         return put_title(&value[start..end], out);
     }
     0
@@ -107,9 +106,8 @@ fn write_code(value: &[u8], kept: Kept, out: &mut [u8]) -> usize
         (mapped runOctets (each (subParam builtIn) (present code (keptCode (now (value .entry)) kept))))
         (now (out .entry)) ⌝ }
 {
-    if kept.there {
-        let place = kept.place;
-        let start = place.start;
+    if 0 < kept.start {
+        let start = kept.start;
         let end = start + 4;
         parameter::encode(tags::POINT_CODE, &value[start..end], out);
         return 8;
@@ -127,9 +125,8 @@ fn write_ssn(value: &[u8], kept: Kept, out: &mut [u8]) -> usize
         (mapped runOctets (each (subParam builtIn) (present sub (keptSub (now (value .entry)) kept))))
         (now (out .entry)) ⌝ }
 {
-    if kept.there {
-        let place = kept.place;
-        let start = place.start;
+    if 0 < kept.start {
+        let start = kept.start;
         let end = start + 4;
         parameter::encode(tags::SUBSYSTEM_NUMBER, &value[start..end], out);
         clear_reserved(out);

@@ -126,10 +126,9 @@ fn title(value: &[u8], kept: Kept, at: usize, out: &mut [u8]) -> usize
     ensures { λ r. ⌜
         Emitted (now (out .entry)) at (marked titleFields (keptTitle builtIn (now (value .entry)) kept)) r (now (out .exit)) ⌝ }
 {
-    if kept.there {
-        let place = kept.place;
-        let start = place.start;
-        let end = start + place.length;
+    if 0 < kept.start {
+        let start = kept.start;
+        let end = start + kept.length;
         return put_title(&value[start..end], at, out);
     }
     put(0, at, out)
@@ -141,9 +140,8 @@ fn code(value: &[u8], kept: Kept, at: usize, out: &mut [u8]) -> usize
     requires { ⌜ at ≤ 2 ^ 57 ⌝ }
     ensures { λ r. ⌜ Emitted (now (out .entry)) at (marked four (keptCode (now (value .entry)) kept)) r (now (out .exit)) ⌝ }
 {
-    if kept.there {
-        let place = kept.place;
-        let start = place.start;
+    if 0 < kept.start {
+        let start = kept.start;
         let a = put(1, at, out);
         let high = be16(value[start], value[start + 1]);
         let low = be16(value[start + 2], value[start + 3]);
@@ -158,9 +156,8 @@ fn ssn(value: &[u8], kept: Kept, at: usize, out: &mut [u8]) -> usize
     requires { ⌜ at ≤ 2 ^ 57 ⌝ }
     ensures { λ r. ⌜ Emitted (now (out .entry)) at (marked (λ (n : ℕ). n ∷ []) (keptSub (now (value .entry)) kept)) r (now (out .exit)) ⌝ }
 {
-    if kept.there {
-        let place = kept.place;
-        let start = place.start;
+    if 0 < kept.start {
+        let start = kept.start;
         let a = put(1, at, out);
         return put(value[start + 3], a, out);
     }

@@ -12,7 +12,7 @@ use Rattle.parameter.specs.Walk
 use Rattle.parameter.specs.Walk.{valued}
 use Rattle.parameter.specs.declared.Place.{Place}
 use Rattle.address.specs.Address.{subParam, readAddress, writeAddress}
-use Rattle.address.specs.Parts.{nothing, noteAll}
+use Rattle.address.specs.Parts.{nothing, noteAll, isKept, isShort}
 use Rattle.address.specs.Steps.Kept.{keptPieces}
 use Rattle.address.specs.Listing.{isOther, otherPlaces}
 use Rattle.address.specs.declared.parts.Kept.{Kept}
@@ -22,7 +22,7 @@ use Rattle.address.specs.declared.interpret.Planned.the-variants as P
 
 -- A sub-parameter that is kept lies inside the value, and has so many octets or more.
 abbrev pub HeldIn : List ℕ → (least : ℕ) → Kept → Type 0
-HeldIn v least k = k .there ≡ true → (k .place .start + k .place .length ≤ length v) × (least ≤ k .place .length)
+HeldIn v least k = isKept k ≡ true → (k .start + k .length ≤ length v) × (least ≤ k .length)
 
 -- Sub-parameters that can be written, with room for them.
 pub record Ready (o : Outcome (List Param)) (out : List ℕ) : Type 0 where
@@ -43,7 +43,7 @@ pub record Walked (v : List ℕ) (s : Parts) : Type 0 where
 -- An address value that reads without refusal.
 pub record Read (v : List ℕ) (s : Parts) : Type 0 where
   pub known : Walked v s
-  pub whole : s .short .there ≡ false
+  pub whole : isShort (s .short) ≡ false
 
 -- The octets in front of the sub-parameters: the routing indicator, and the three bits of the address indicator.
 abbrev pub headOctets : List ℕ → List ℕ

@@ -11,7 +11,7 @@ use lib.Dec.{leb}
 use lib.ListN.{length, getD, take, drop, length-drop}
 use lib.Seq.{take-all}
 use Rattle.bcd.specs.Outcome.{Outcome, accepted, refused, pick, after, mapped, each, All, Octets, most}
-use Rattle.bcd.specs.Digits.{builtIn, digitsIn, readDigits, writeDigits}
+use Rattle.bcd.specs.Digits.{Alphabet, Lawful, builtIn, digitsIn, readDigits, writeDigits}
 use Rattle.bcd.proofs.Outcomes.{accepted-inj, never, le-or-lt, mapped-inv, demand-inv, bounded-within, each-append}
 use Rattle.bcd.proofs.Characters.{builtIn-lawful}
 use Rattle.bcd.proofs.Writable.{write-inv}
@@ -60,9 +60,9 @@ walked v s o within long routing e =
     record { octets = o; within = within; long = long; routing = routing; places = ps; walked = w; parts = sym p }
 
 -- A title's octets on the wire, by its digits.
-pub title-sized : (t : Title) → mapped runLength (subParam builtIn (title t)) ≡ mapped (λ n. (n + 15) / 4 * 4) (mapped length (writeDigits builtIn (t .digits)))
+pub title-sized : (A : Alphabet) (t : Title) → mapped runLength (subParam A (title t)) ≡ mapped (λ n. (n + 15) / 4 * 4) (mapped length (writeDigits A (t .digits)))
 unfolding subParam writeTitle runLength
-title-sized t = go (writeDigits builtIn (t .digits))
+title-sized A t = go (writeDigits A (t .digits))
   where
     go :
         (o : Outcome (List ℕ))
@@ -75,7 +75,7 @@ pub title-measured :
     (w : List ℕ)
     → mapped runLength (subParam builtIn (title (titleAt builtIn w)))
     ≡ mapped (λ n. (n + 15) / 4 * 4) (mapped length (writeDigits builtIn (digitsIn builtIn (drop 8 w) (getD w 4 0))))
-title-measured w = title-sized (titleAt builtIn w)
+title-measured w = title-sized builtIn (titleAt builtIn w)
 
 read-digits : (xs : List ℕ) (count : ℕ) → length xs ≤ most → after (readDigits builtIn xs count) (writeDigits builtIn) ≡ writeDigits builtIn (digitsIn builtIn xs count)
 unfolding readDigits
@@ -93,40 +93,44 @@ read-part v count h =
     ∙ read-digits (drop 8 v) count (omega (arith, length-drop 8 v))
 
 -- It takes at most 140 octets.
+module _ (A : Alphabet) (L : Lawful A) where
+  digits-few : (cs : List ℕ) (n : ℕ) → accepted n ≡ mapped length (writeDigits A cs) → n ≤ 128
+  unfolding writeDigits
+  digits-few cs n e =
+      let (os, w, k) = mapped-inv length (writeDigits A cs) (sym e) in
+      let (few, p) = demand-inv (leb (length cs) 255) 11 _ _ w in
+      let g = write-inv A L cs n e in
+      omega (arith, leb-true (length cs) 255 few, g .count)
+
+  title-small : (t : Title) (n : ℕ) → accepted n ≡ mapped runLength (subParam A (title t)) → n ≤ 140
+  title-small t n e =
+      let (k, hk, same) = mapped-inv (λ n. (n + 15) / 4 * 4) (mapped length (writeDigits A (t .digits))) (sym (e ∙ title-sized A t)) in
+      let s = digits-few (t .digits) k (sym hk) in
+      omega arith
+
+  pub flagged-small : (b : Bool) (t : Title) (n : ℕ) → accepted n ≡ mapped runLength (each (subParam A) (present title (flagged b t))) → n ≤ 140
+  unfolding runLength
+  flagged-small true t n e = title-small t n (e ∙ ap (mapped runLength) (each-one (subParam A) (title t)))
+  flagged-small false t n e = let z : n ≡ 0 = accepted-inj e in omega arith
+
 pub digits-small : (cs : List ℕ) (n : ℕ) → accepted n ≡ mapped length (writeDigits builtIn cs) → n ≤ 128
-unfolding writeDigits
-digits-small cs n e =
-    let (os, w, k) = mapped-inv length (writeDigits builtIn cs) (sym e) in
-    let (few, p) = demand-inv (leb (length cs) 255) 11 _ _ w in
-    let g = write-inv builtIn builtIn-lawful cs n e in
-    omega (arith, leb-true (length cs) 255 few, g .count)
-
-title-small : (t : Title) (n : ℕ) → accepted n ≡ mapped runLength (subParam builtIn (title t)) → n ≤ 140
-title-small t n e =
-    let (k, hk, same) = mapped-inv (λ n. (n + 15) / 4 * 4) (mapped length (writeDigits builtIn (t .digits))) (sym (e ∙ title-sized t)) in
-    let s = digits-small (t .digits) k (sym hk) in
-    omega arith
-
-pub flagged-small : (b : Bool) (t : Title) (n : ℕ) → accepted n ≡ mapped runLength (each (subParam builtIn) (present title (flagged b t))) → n ≤ 140
-unfolding runLength
-flagged-small true t n e = title-small t n (e ∙ ap (mapped runLength) (each-one (subParam builtIn) (title t)))
-flagged-small false t n e = let z : n ≡ 0 = accepted-inj e in omega arith
+digits-small = digits-few builtIn builtIn-lawful
 
 -- A title that is kept, and none.
-pub title-there :
-    (v : List ℕ) (k : Kept) (o : Outcome ℕ)
-    → isKept k ≡ true
-    → o ≡ mapped runLength (subParam builtIn (title (titleAt builtIn (keptValue v k))))
-    → o ≡ mapped runLength (each (subParam builtIn) (present title (keptTitle builtIn v k)))
-title-there v k o e h = rw e (h ∙ ap (mapped runLength) (sym (each-one (subParam builtIn) (title (titleAt builtIn (keptValue v k))))))
+module _ (A : Alphabet) (v : List ℕ) (k : Kept) where
+  pub title-there :
+      (o : Outcome ℕ)
+      → isKept k ≡ true
+      → o ≡ mapped runLength (subParam A (title (titleAt builtIn (keptValue v k))))
+      → o ≡ mapped runLength (each (subParam A) (present title (keptTitle builtIn v k)))
+  title-there o e h = rw e (h ∙ ap (mapped runLength) (sym (each-one (subParam A) (title (titleAt builtIn (keptValue v k))))))
 
-pub kept-small :
-    (v : List ℕ) (k : Kept) (n : ℕ) → accepted n ≡ mapped runLength (each (subParam builtIn) (present title (keptTitle builtIn v k))) → n ≤ 140
-kept-small v k = flagged-small (isKept k) (titleAt builtIn (keptValue v k))
+  pub kept-small : Lawful A → (n : ℕ) → accepted n ≡ mapped runLength (each (subParam A) (present title (keptTitle builtIn v k))) → n ≤ 140
+  kept-small L = flagged-small A L (isKept k) (titleAt builtIn (keptValue v k))
 
-pub title-absent : (v : List ℕ) (k : Kept) → isKept k ≡ false → accepted 0 ≡ mapped runLength (each (subParam builtIn) (present title (keptTitle builtIn v k)))
-unfolding runLength
-title-absent v k e = rw e
+  pub title-absent : isKept k ≡ false → accepted 0 ≡ mapped runLength (each (subParam A) (present title (keptTitle builtIn v k)))
+  unfolding runLength
+  title-absent e = rw e
 
 -- Where none is too short, what is kept lies inside the value and is long enough.
 pub record Sound (v : List ℕ) (s : Parts) : Type 0 where
@@ -199,20 +203,21 @@ codeParam n = record { tag = 0x8002; value = four n }
 abbrev pub subOne : ℕ → Param
 subOne n = record { tag = 0x8003; value = 0 ∷ 0 ∷ 0 ∷ n ∷ [] }
 
-pub code-params : (o : Option ℕ) → each (subParam builtIn) (present code o) ≡ accepted (paramOf codeParam o)
-unfolding subParam
-code-params none = refl
-code-params (some n) = refl
+module _ (A : Alphabet) where
+  pub code-params : (o : Option ℕ) → each (subParam A) (present code o) ≡ accepted (paramOf codeParam o)
+  unfolding subParam
+  code-params none = refl
+  code-params (some n) = refl
 
-pub sub-params : (o : Option ℕ) → each (subParam builtIn) (present sub o) ≡ accepted (paramOf subOne o)
-unfolding subParam
-sub-params none = refl
-sub-params (some n) = refl
+  pub sub-params : (o : Option ℕ) → each (subParam A) (present sub o) ≡ accepted (paramOf subOne o)
+  unfolding subParam
+  sub-params none = refl
+  sub-params (some n) = refl
 
-other-params : (qs : List Param) → each (subParam builtIn) (map other qs) ≡ accepted qs
-unfolding subParam
-other-params [] = refl
-other-params (q ∷ qs) = rw (other-params qs)
+  other-params : (qs : List Param) → each (subParam A) (map other qs) ≡ accepted qs
+  unfolding subParam
+  other-params [] = refl
+  other-params (q ∷ qs) = rw (other-params qs)
 
 -- A point code or an SSN takes eight octets.
 pub four-length : (f : ℕ → Param) → ((n : ℕ) → length (f n .value) ≡ 4) → (b : Bool) (n : ℕ) → runLength (paramOf f (flagged b n)) ≡ pick b 8 0
@@ -247,18 +252,18 @@ behind-length b d c s os =
     (run-length-append (paramOf subOne (flagged d s)) _ ∙ ap (λ (a : ℕ). a + runLength os) (four-length subOne (λ n. refl) d s))
 
 -- The sub-parameters of any title, point code, SSN and others.
-module _ (t : Option Title) (c s : Option ℕ) (os : List Param) where
+module _ (A : Alphabet) (t : Option Title) (c s : Option ℕ) (os : List Param) where
   abbrev parts : List Piece
   parts = present title t ++ (present code c ++ (present sub s ++ map other os))
 
-  pub parts-written : (qs : List Param) → each (subParam builtIn) (present title t) ≡ accepted qs → each (subParam builtIn) parts ≡ accepted (qs ++ behind c s os)
+  pub parts-written : (qs : List Param) → each (subParam A) (present title t) ≡ accepted qs → each (subParam A) parts ≡ accepted (qs ++ behind c s os)
   parts-written qs e =
-      each-append (subParam builtIn) (present title t) _ qs (behind c s os) e
-      (each-append (subParam builtIn) (present code c) _ _ _ (code-params c)
-      (each-append (subParam builtIn) (present sub s) _ _ _ (sub-params s) (other-params os)))
+      each-append (subParam A) (present title t) _ qs (behind c s os) e
+      (each-append (subParam A) (present code c) _ _ _ (code-params A c)
+      (each-append (subParam A) (present sub s) _ _ _ (sub-params A s) (other-params A os)))
 
-  pub parts-refused : (n : ℕ) (vs : List ℕ) → each (subParam builtIn) (present title t) ≡ refused n vs → each (subParam builtIn) parts ≡ refused n vs
-  parts-refused n vs e = each-first-refused (subParam builtIn) (present title t) _ n vs e
+  pub parts-refused : (n : ℕ) (vs : List ℕ) → each (subParam A) (present title t) ≡ refused n vs → each (subParam A) parts ≡ refused n vs
+  parts-refused n vs e = each-first-refused (subParam A) (present title t) _ n vs e
 
 module _ (v : List ℕ) (s : Parts) (ps : List Place) where
   abbrev pub rest : List Param
@@ -269,15 +274,15 @@ module _ (v : List ℕ) (s : Parts) (ps : List Place) where
   rest-length = behind-length (isKept (s .code)) (isKept (s .ssn)) _ _ (map (valued v) (otherPlaces ps))
 
   pub kept-written :
-      (qs : List Param)
-      → each (subParam builtIn) (present title (keptTitle builtIn v (s .title))) ≡ accepted qs
-      → each (subParam builtIn) (keptPieces builtIn v s ps) ≡ accepted (qs ++ rest)
+      (A : Alphabet) (qs : List Param)
+      → each (subParam A) (present title (keptTitle builtIn v (s .title))) ≡ accepted qs
+      → each (subParam A) (keptPieces builtIn v s ps) ≡ accepted (qs ++ rest)
   unfolding keptPieces
-  kept-written = parts-written (keptTitle builtIn v (s .title)) (keptCode v (s .code)) (keptSub v (s .ssn)) (map (valued v) (otherPlaces ps))
+  kept-written A = parts-written A (keptTitle builtIn v (s .title)) (keptCode v (s .code)) (keptSub v (s .ssn)) (map (valued v) (otherPlaces ps))
 
   pub kept-refused :
-      (n : ℕ) (vs : List ℕ)
-      → each (subParam builtIn) (present title (keptTitle builtIn v (s .title))) ≡ refused n vs
-      → each (subParam builtIn) (keptPieces builtIn v s ps) ≡ refused n vs
+      (A : Alphabet) (n : ℕ) (vs : List ℕ)
+      → each (subParam A) (present title (keptTitle builtIn v (s .title))) ≡ refused n vs
+      → each (subParam A) (keptPieces builtIn v s ps) ≡ refused n vs
   unfolding keptPieces
-  kept-refused = parts-refused (keptTitle builtIn v (s .title)) (keptCode v (s .code)) (keptSub v (s .ssn)) (map (valued v) (otherPlaces ps))
+  kept-refused A = parts-refused A (keptTitle builtIn v (s .title)) (keptCode v (s .code)) (keptSub v (s .ssn)) (map (valued v) (otherPlaces ps))

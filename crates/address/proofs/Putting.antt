@@ -17,6 +17,7 @@ use Rattle.parameter.proofs.Running.{part-of}
 use Rattle.address.specs.Address.{titleAt, title, code, sub, present, subParam}
 use Rattle.address.specs.Records.{flagged}
 use Rattle.address.specs.Parts.{isKept}
+use Rattle.address.specs.Again.{withUnknown}
 use Rattle.address.specs.Steps.Kept.{keptValue, keptTitle, keptCode, keptSub}
 use Rattle.address.specs.Steps.Plan.{Ready}
 use Rattle.address.specs.declared.parts.Kept.{Kept}
@@ -76,17 +77,17 @@ ssn-patched (a ∷ b ∷ c ∷ d ∷ w) r h = refl
 
 module _ (v : List ℕ) (k : Kept) (out : List ℕ) where
   -- What is written takes eight octets, if it is there.
-  pub code-room : Ready (each (subParam builtIn) (present code (keptCode v k))) out → isKept k ≡ true → 8 ≤ length out
+  pub code-room : Ready (each (subParam withUnknown) (present code (keptCode v k))) out → isKept k ≡ true → 8 ≤ length out
   code-room y e =
       let l = four-length codeParam (λ n. refl) (isKept k) (fourIn (keptValue v k)) in
-      let p = accepted-inj (sym (y .accepts) ∙ code-params (keptCode v k)) in
+      let p = accepted-inj (sym (y .accepts) ∙ code-params withUnknown (keptCode v k)) in
       let s = rw e at (sym (ap runLength p ∙ l)) in
       omega (arith, y .room)
 
-  pub sub-room : Ready (each (subParam builtIn) (present sub (keptSub v k))) out → isKept k ≡ true → 8 ≤ length out
+  pub sub-room : Ready (each (subParam withUnknown) (present sub (keptSub v k))) out → isKept k ≡ true → 8 ≤ length out
   sub-room y e =
       let l = four-length subOne (λ n. refl) (isKept k) (getD (keptValue v k) 3 0) in
-      let p = accepted-inj (sym (y .accepts) ∙ sub-params (keptSub v k)) in
+      let p = accepted-inj (sym (y .accepts) ∙ sub-params withUnknown (keptSub v k)) in
       let s = rw e at (sym (ap runLength p ∙ l)) in
       omega (arith, y .room)
 
@@ -120,52 +121,52 @@ module _ (v : List ℕ) (k : Kept) (out : List ℕ) where
         (last : List ℕ)
         → Octets v
         → last ≡ paramOctets (record { tag = 0x8002; value = take 4 value }) ++ drop 8 out
-        → record { answer = accepted 8; buffer = last } ≡ deliver (mapped runOctets (each (subParam builtIn) (present code (keptCode v k)))) out
+        → record { answer = accepted 8; buffer = last } ≡ deliver (mapped runOctets (each (subParam withUnknown) (present code (keptCode v k)))) out
     code-put last o e =
         let ov = all-take (λ (x : ℕ). x < 256) (k .length) (drop start v) (all-drop (λ (x : ℕ). x < 256) start v o) in
         let same = ap (λ w. paramOctets (record { tag = 0x8002; value = w }) ++ drop 8 out) (four-again value value-long ov) in
-        let known = code-params (keptCode v k) ∙ ap (λ (b : Bool). accepted (paramOf codeParam (flagged b (fourIn value)))) there in
+        let known = code-params withUnknown (keptCode v k) ∙ ap (λ (b : Bool). accepted (paramOf codeParam (flagged b (fourIn value)))) there in
         one-delivered (codeParam (fourIn value)) 8 last out (e ∙ same) refl room
         ∙ ap (λ (o : Outcome (List Param)). deliver (mapped runOctets o) out) (sym known)
 
     pub sub-put :
         (last : List ℕ)
         → last ≡ paramOctets (record { tag = 0x8003; value = take 4 value }) ++ drop 8 out
-        → record { answer = accepted 8; buffer = set (set (set last 4 0) 5 0) 6 0 } ≡ deliver (mapped runOctets (each (subParam builtIn) (present sub (keptSub v k)))) out
+        → record { answer = accepted 8; buffer = set (set (set last 4 0) 5 0) 6 0 } ≡ deliver (mapped runOctets (each (subParam withUnknown) (present sub (keptSub v k)))) out
     sub-put last e =
-        let known = sub-params (keptSub v k) ∙ ap (λ (b : Bool). accepted (paramOf subOne (flagged b (getD value 3 0)))) there in
+        let known = sub-params withUnknown (keptSub v k) ∙ ap (λ (b : Bool). accepted (paramOf subOne (flagged b (getD value 3 0)))) there in
         one-delivered (subOne (getD value 3 0)) 8 _ out
         (ap (λ d. set (set (set d 4 0) 5 0) 6 0) e ∙ ssn-patched value (drop 8 out) value-long) refl room
         ∙ ap (λ (o : Outcome (List Param)). deliver (mapped runOctets o) out) (sym known)
 
-  pub code-absent : isKept k ≡ false → record { answer = accepted 0; buffer = out } ≡ deliver (mapped runOctets (each (subParam builtIn) (present code (keptCode v k)))) out
+  pub code-absent : isKept k ≡ false → record { answer = accepted 0; buffer = out } ≡ deliver (mapped runOctets (each (subParam withUnknown) (present code (keptCode v k)))) out
   code-absent e = rw e (none-delivered out)
 
-  pub sub-absent : isKept k ≡ false → record { answer = accepted 0; buffer = out } ≡ deliver (mapped runOctets (each (subParam builtIn) (present sub (keptSub v k)))) out
+  pub sub-absent : isKept k ≡ false → record { answer = accepted 0; buffer = out } ≡ deliver (mapped runOctets (each (subParam withUnknown) (present sub (keptSub v k)))) out
   sub-absent e = rw e (none-delivered out)
 
-  pub title-absent : isKept k ≡ false → record { answer = accepted 0; buffer = out } ≡ deliver (mapped runOctets (each (subParam builtIn) (present title (keptTitle builtIn v k)))) out
+  pub title-absent : isKept k ≡ false → record { answer = accepted 0; buffer = out } ≡ deliver (mapped runOctets (each (subParam withUnknown) (present title (keptTitle builtIn v k)))) out
   title-absent e = rw e (none-delivered out)
 
   -- A title that is kept, by its value.
-  title-known : isKept k ≡ true → each (subParam builtIn) (present title (keptTitle builtIn v k)) ≡ subParam builtIn (title (titleAt builtIn (keptValue v k)))
-  title-known e = rw e (each-one (subParam builtIn) (title (titleAt builtIn (keptValue v k))))
+  title-known : isKept k ≡ true → each (subParam withUnknown) (present title (keptTitle builtIn v k)) ≡ subParam withUnknown (title (titleAt builtIn (keptValue v k)))
+  title-known e = rw e (each-one (subParam withUnknown) (title (titleAt builtIn (keptValue v k))))
 
   abbrev lent : List ℕ
   lent = take (k .start + k .length - k .start) (drop (k .start) v)
 
-  pub title-ready : isKept k ≡ true → Ready (each (subParam builtIn) (present title (keptTitle builtIn v k))) out → Ready (subParam builtIn (title (titleAt builtIn lent))) out
+  pub title-ready : isKept k ≡ true → Ready (each (subParam withUnknown) (present title (keptTitle builtIn v k))) out → Ready (subParam withUnknown (title (titleAt builtIn lent))) out
   title-ready e y = record {
     params = y .params;
-    accepts = ap (λ w. subParam builtIn (title (titleAt builtIn w))) (part-of (k .start) (k .length) v) ∙ sym (title-known e) ∙ y .accepts;
+    accepts = ap (λ w. subParam withUnknown (title (titleAt builtIn w))) (part-of (k .start) (k .length) v) ∙ sym (title-known e) ∙ y .accepts;
     room = y .room;
   }
 
   pub title-put :
       {r : Outcome ℕ} {last : List ℕ}
       → isKept k ≡ true
-      → record { answer = r; buffer = last } ≡ deliver (mapped runOctets (subParam builtIn (title (titleAt builtIn lent)))) out
-      → record { answer = r; buffer = last } ≡ deliver (mapped runOctets (each (subParam builtIn) (present title (keptTitle builtIn v k)))) out
+      → record { answer = r; buffer = last } ≡ deliver (mapped runOctets (subParam withUnknown (title (titleAt builtIn lent)))) out
+      → record { answer = r; buffer = last } ≡ deliver (mapped runOctets (each (subParam withUnknown) (present title (keptTitle builtIn v k)))) out
   title-put e h =
-      h ∙ ap (λ w. deliver (mapped runOctets (subParam builtIn (title (titleAt builtIn w)))) out) (part-of (k .start) (k .length) v)
+      h ∙ ap (λ w. deliver (mapped runOctets (subParam withUnknown (title (titleAt builtIn w)))) out) (part-of (k .start) (k .length) v)
       ∙ ap (λ (o : Outcome (List Param)). deliver (mapped runOctets o) out) (sym (title-known e))

@@ -6,13 +6,14 @@ use mathlib.Core.List.{List, [], _++_, map}
 use lib.ListN.{length, getD, set}
 use Rattle.bcd.specs.Outcome.{Outcome, accepted, refused, pick, after, each, Octets, most}
 use Rattle.bcd.specs.Answers.{refusalOf}
-use Rattle.bcd.specs.Digits.{builtIn}
+use Rattle.bcd.specs.Digits.{Alphabet, builtIn}
 use Rattle.parameter.specs.Parameter.{Param, two, twoAt, runOctets, runLength, mostValue}
 use Rattle.parameter.specs.Walk
 use Rattle.parameter.specs.Walk.{valued}
 use Rattle.parameter.specs.declared.Place.{Place}
 use Rattle.address.specs.Address.{subParam, readAddress, writeAddress}
 use Rattle.address.specs.Parts.{nothing, noteAll, isKept, isShort}
+use Rattle.address.specs.Again.{withUnknown}
 use Rattle.address.specs.Steps.Kept.{keptPieces}
 use Rattle.address.specs.Listing.{isOther, otherPlaces}
 use Rattle.address.specs.declared.parts.Kept.{Kept}
@@ -52,25 +53,29 @@ headOctets v = two (twoAt v 0) ++ two (getD v 3 0 % 8)
 abbrev pub wireOf : List ℕ → List Param → List ℕ
 wireOf v qs = headOctets v ++ runOctets qs
 
--- One that can be written, as so many octets.
-pub record Plan (v : List ℕ) (s : Parts) (total : ℕ) : Type 0 where
+-- One that can be written, as so many octets. The first argument is the alphabet of the digits.
+pub record Plan (A : Alphabet) (v : List ℕ) (s : Parts) (total : ℕ) : Type 0 where
   pub read : Read v s
   pub params : List Param
-  pub written : each (subParam builtIn) (keptPieces builtIn v s (read .known .places)) ≡ accepted params
+  pub written : each (subParam A) (keptPieces builtIn v s (read .known .places)) ≡ accepted params
   pub size : 4 + runLength params ≡ total
   pub fits : total ≤ mostValue
 
+-- The digits that are written: where they are checked, ? is none.
+abbrev pub digitsBy : (checked : Bool) → Alphabet
+digitsBy checked = pick checked builtIn withUnknown
+
 -- What interpreting a value gives: read and written again, or only read.
-abbrev pub WrittenAs : (tag : ℕ) → List ℕ → Planned → Type 0
-WrittenAs tag v (P.Plan s total) = Plan v s total
-WrittenAs tag v (P.Refused r) = after (readAddress builtIn v) (writeAddress builtIn tag) ≡ refusalOf r
+abbrev pub WrittenAs : Alphabet → (tag : ℕ) → List ℕ → Planned → Type 0
+WrittenAs A tag v (P.Plan s total) = Plan A v s total
+WrittenAs A tag v (P.Refused r) = after (readAddress builtIn v) (writeAddress A tag) ≡ refusalOf r
 
 abbrev pub ReadAs : List ℕ → Planned → Type 0
 ReadAs v (P.Plan s total) = Read v s
 ReadAs v (P.Refused r) = readAddress builtIn v ≡ refusalOf r
 
-abbrev pub PlanOf : (written : Bool) → (tag : ℕ) → List ℕ → Planned → Type 0
-PlanOf written tag v r = pick written (WrittenAs tag v r) (ReadAs v r)
+abbrev pub PlanOf : (written checked : Bool) → (tag : ℕ) → List ℕ → Planned → Type 0
+PlanOf written checked tag v r = pick written (WrittenAs (digitsBy checked) tag v r) (ReadAs v r)
 
 -- The octets of the others.
 abbrev pub placesIn : Outcome (List Place) → List Place

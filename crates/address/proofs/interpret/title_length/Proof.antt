@@ -8,6 +8,7 @@ use Rattle.bcd.specs.Digits.{builtIn}
 use Rattle.parameter.specs.Parameter.{runLength}
 use Rattle.parameter.proofs.Running.{part-of, part-length}
 use Rattle.address.specs.Address.{titleAt, title, subParam}
+use Rattle.address.specs.Steps.Plan.{digitsBy}
 use Rattle.address.proofs.Planning.{title-there, title-absent}
 use Rattle.address.proofs.interpret.title_length.Statement.{statement}
 use Rattle.address.proofs.interpret.title_length.Tie as tie
@@ -36,11 +37,11 @@ returns : tie.Need-returns
 returns c =
     let t = c .before .before .before in
     let s = t .before .before .before in
-    title-there (s .args .value .now) (s .args .kept) _ (lt-ltb 0 _ (t .if1 .taken))
-    (c .measure-title .ensures ∙ ap (λ w. mapped runLength (subParam builtIn (title (titleAt builtIn w)))) (part-of (s .args .kept .start) (s .args .kept .length) (s .args .value .now)))
+    title-there (digitsBy (s .args .checked)) (s .args .value .now) (s .args .kept) _ (lt-ltb 0 _ (t .if1 .taken))
+    (c .measure-title .ensures ∙ ap (λ w. mapped runLength (subParam (digitsBy (s .args .checked)) (title (titleAt builtIn w)))) (part-of (s .args .kept .start) (s .args .kept .length) (s .args .value .now)))
 
 returns-2 : tie.Need-returns-2
-returns-2 c = let s = c .before .before .before in title-absent (s .args .value .now) (s .args .kept) (le-ltb 0 _ (c .if1 .left))
+returns-2 c = let s = c .before .before .before in title-absent (digitsBy (s .args .checked)) (s .args .value .now) (s .args .kept) (le-ltb 0 _ (c .if1 .left))
 
 pub title-length-spec : {M : Type 1} → statement M
 title-length-spec =

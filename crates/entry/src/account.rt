@@ -1,5 +1,5 @@
 // A flat account of a message with its addresses. The same walk measures and writes: octets that the slice has no place
-// for are counted and not stored.
+// for are counted and not stored, and those of a place or a title are not even made where it has none for the first.
 use crate::be32;
 use address::interpret::interpret;
 use address::parts::Kept;
@@ -71,6 +71,9 @@ fn put_place(place: Place, at: usize, out: &mut [u8]) -> usize
     requires { ⌜ at ≤ 2 ^ 58 ⌝ }
     ensures { λ r. ⌜ Emitted (now (out .entry)) at (placeOctets place) r (now (out .exit)) ⌝ }
 {
+    if out.len() <= at {
+        return at + 10;
+    }
     let tag = place.tag;
     let a = put((tag / 256) as u8, at, out);
     let b = put((tag % 256) as u8, a, out);
@@ -101,6 +104,10 @@ fn put_title(value: &[u8], at: usize, out: &mut [u8]) -> usize
     requires { ⌜ at ≤ 2 ^ 58 ⌝ }
     ensures { λ r. ⌜ Emitted (now (out .entry)) at (1 ∷ titleFields (titleAt builtIn (now (value .entry)))) r (now (out .exit)) ⌝ }
 {
+    if out.len() <= at {
+        let count = value[4] as usize;
+        return at + 6 + bcd::smaller(count, 2 * (value.len() - 8));
+    }
     let a = put(1, at, out);
     let b = put(value[3], a, out);
     let c = put(value[5], b, out);

@@ -16,8 +16,9 @@ use Rattle.parameter.proofs.Running.{part-of}
 use Rattle.address.specs.Address.{titleAt, Title, titleIn, readTitle, Address, addressWith, bit, routingIn, readAddress}
 use Rattle.address.specs.Records.{routingValue, routingOf, flagged, addressOf, titleOf}
 use Rattle.address.specs.Titles.{TitleAnswer, recordOf, noTitle, titleAnswer}
+use Rattle.address.specs.Parts.{isKept}
 use Rattle.address.specs.Listing.{otherPlaces, routingNamed, isThere, addressRecord}
-use Rattle.address.specs.Steps.Kept.{keptTitle, keptCode, keptSub}
+use Rattle.address.specs.Steps.Kept.{keptValue, keptTitle, keptCode, keptSub}
 use Rattle.address.specs.Steps.Plan.{HeldIn, Read}
 use Rattle.address.specs.declared.GlobalTitle.{GlobalTitle}
 use Rattle.address.specs.declared.RoutingIndicator.{RoutingIndicator}
@@ -27,7 +28,7 @@ use Rattle.address.specs.declared.SuaAddress.{SuaAddress}
 use Rattle.address.specs.declared.parts.Kept.{Kept}
 use Rattle.address.specs.declared.parts.Parts.{Parts}
 use Rattle.parameter.proofs.Records.{value-length}
-use Rattle.address.proofs.Keeping.{value-at}
+use Rattle.address.proofs.Keeping.{value-at, places-behind, placeOf}
 use Rattle.address.proofs.Interpreting.{title-holds, code-holds, sub-holds, others-hold, routing-in}
 use Rattle.address.proofs.Interpreted.{address, read-whole}
 use Rattle.address.proofs.Others.{count-known}
@@ -36,17 +37,17 @@ use Rattle.address.proofs.TitleRecords.{record-back}
 
 -- The value of a part that is kept, as the code lends it.
 abbrev pub lentOf : List ℕ → Kept → List ℕ
-lentOf v k = take (k .place .start + k .place .length - k .place .start) (drop (k .place .start) v)
+lentOf v k = take (k .start + k .length - k .start) (drop (k .start) v)
 
-module _ (v : List ℕ) (within : length v ≤ most) (k : Kept) (there : k .there ≡ true) where
+module _ (v : List ℕ) (within : length v ≤ most) (k : Kept) (there : isKept k ≡ true) where
   abbrev lent : List ℕ
   lent = lentOf v k
 
   abbrev value : List ℕ
-  value = valued v (k .place) .value
+  value = keptValue v k
 
   same : lent ≡ value
-  same = part-of (k .place .start) (k .place .length) v
+  same = part-of (k .start) (k .length) v
 
   pub title-kept :
       HeldIn v 8 k
@@ -56,7 +57,7 @@ module _ (v : List ℕ) (within : length v ≤ most) (k : Kept) (there : k .ther
   unfolding readTitle titleIn titleAnswer
   title-kept h answer g e =
       let (inside, long) = h there in
-      let l = value-length v (k .place) inside in
+      let l = value-length v (placeOf k) inside in
       let read : readTitle builtIn value ≡ accepted (titleAt builtIn value) =
       bounded-within value (titleIn builtIn value) (omega arith) ∙ rw (le-leb 8 (length value) (omega arith)) in
       ap (λ (a : TitleAnswer). a .title) (e ∙ ap (λ w. titleAnswer (readTitle builtIn w)) same ∙ ap titleAnswer read) ∙ rw there
@@ -65,7 +66,7 @@ module _ (v : List ℕ) (within : length v ≤ most) (k : Kept) (there : k .ther
   unfolding numberIn
   number-known h =
       let (inside, long) = h there in
-      let l = value-length v (k .place) inside in
+      let l = value-length v (placeOf k) inside in
       ap (λ (w : List ℕ). bounded {A = Option ℕ} w (accepted (numberIn w))) same
       ∙ bounded-within value (accepted (numberIn value)) (omega arith)
       ∙ rw (le-leb 4 (length value) (omega arith))
@@ -82,8 +83,8 @@ module _ (v : List ℕ) (within : length v ≤ most) (k : Kept) (there : k .ther
   pub code-refused : {X : Type 0} (n : ℕ) (vs : List ℕ) → HeldIn v 4 k → refused n vs ≡ bounded lent (accepted (numberIn lent)) → X
   code-refused n vs h e = absurd (never (e ∙ number-known h))
 
-pub sub-kept : (v : List ℕ) (k : Kept) → k .there ≡ true → HeldIn v 4 k → getD v (k .place .start + 3) 0 ≡ Option·getD (keptSub v k) 0
-sub-kept v k there h = sym (value-at v (k .place) 3 (omega (arith, h there .1))) ∙ rw there
+pub sub-kept : (v : List ℕ) (k : Kept) → isKept k ≡ true → HeldIn v 4 k → getD v (k .start + 3) 0 ≡ Option·getD (keptSub v k) 0
+sub-kept v k there h = sym (value-at v (placeOf k) 3 (omega (arith, h there .1))) ∙ rw there
 
 -- The record of the parts that the walk keeps.
 abbrev partsRecord : List ℕ → Parts → SuaAddress
@@ -92,11 +93,11 @@ partsRecord v s = record {
   «include_gt» = bit 4 (getD v 3 0);
   «include_pc» = bit 2 (getD v 3 0);
   «include_ssn» = bit 1 (getD v 3 0);
-  «has_title» = s .title .there;
+  «has_title» = isKept (s .title);
   «global_title» = Option·getD (Option·map recordOf (keptTitle builtIn v (s .title))) noTitle;
-  «has_point_code» = s .code .there;
+  «has_point_code» = isKept (s .code);
   «point_code» = Option·getD (keptCode v (s .code)) 0;
-  «has_ssn» = s .ssn .there;
+  «has_ssn» = isKept (s .ssn);
   ssn = Option·getD (keptSub v (s .ssn)) 0;
   «other_count» = s .«other_count»;
 }
@@ -109,17 +110,18 @@ record-known : {v : List ℕ} {s : Parts} (r : Read v s) → addressRecord (addr
 unfolding addressWith
 record-known {v} {s} r =
     let ps = r .known .places in
+    let behind = places-behind v ps (r .known .walked) in
     let count : length (map (valued v) (otherPlaces ps)) ≡ s .«other_count» = length-map (otherPlaces ps) (valued v) ∙ sym (count-known (r .known)) in
     rw (
-      title-holds builtIn v ps,
-      code-holds builtIn v ps,
-      sub-holds builtIn v ps,
+      title-holds builtIn v ps behind,
+      code-holds builtIn v ps behind,
+      sub-holds builtIn v ps behind,
       others-hold builtIn v ps,
       ← r .known .parts,
       count,
-      there-flagged (s .title .there) (titleAt builtIn (valued v (s .title .place) .value)),
-      there-flagged (s .code .there) (fourIn (valued v (s .code .place) .value)),
-      there-flagged (s .ssn .there) (getD (valued v (s .ssn .place) .value) 3 0),
+      there-flagged (isKept (s .title)) (titleAt builtIn (keptValue v (s .title))),
+      there-flagged (isKept (s .code)) (fourIn (keptValue v (s .code))),
+      there-flagged (isKept (s .ssn)) (getD (keptValue v (s .ssn)) 3 0),
     )
 
 pub routing-kept : (n : ℕ) (r : Routing) (i : RoutingIndicator) → routingOf r ≡ routingIn n → r ≡ R.Indicator i → n ≤ 4 → i ≡ routingNamed n
@@ -140,11 +142,11 @@ pub record-made :
       «include_gt» = gt;
       «include_pc» = pc;
       «include_ssn» = ssn;
-      «has_title» = s .title .there;
+      «has_title» = isKept (s .title);
       «global_title» = g;
-      «has_point_code» = s .code .there;
+      «has_point_code» = isKept (s .code);
       «point_code» = c;
-      «has_ssn» = s .ssn .there;
+      «has_ssn» = isKept (s .ssn);
       ssn = u;
       «other_count» = s .«other_count»;
     }) ≡ mapped addressRecord (readAddress builtIn v)

@@ -1,7 +1,8 @@
 -- An address value that was planned, written part by part.
 use Prim.Native.Nat.{ℕ, _+_, _-_, _*_, _/_, _%_, _≤_, _<_}
 use mathlib.Core.Path.{_≡_, refl, sym, ap, _∙_, subst}
-use mathlib.Core.List.{List, [], _∷_, _++_, append-assoc}
+use mathlib.Core.Bool.{Bool, true, false}
+use mathlib.Core.List.{List, [], _∷_, _++_, map, append-assoc, append-nil}
 use native.Mathlib.Omega.{arith}
 use lib.ListN.{length, getD, set, drop, length-append}
 use borrow.Rule.Slice.PartMut.{midOf, putMid}
@@ -10,11 +11,16 @@ use Rattle.bcd.specs.Digits.{builtIn}
 use Rattle.bcd.proofs.Outcomes.{accepted-inj, each-split, deliver-buffer, deliver-answer}
 use Rattle.bcd.proofs.Writing.{Begun, extend, delivered}
 use Rattle.parameter.specs.Parameter.{Param, twoAt, runOctets, runLength}
+use Rattle.parameter.specs.Walk.{valued}
 use Rattle.parameter.proofs.RoundTrip.{run-length, run-octets-append, run-length-append}
 use Rattle.address.specs.Address.{title, code, present, subParam, readAddress, writeAddress}
 use Rattle.address.specs.Steps.Kept.{keptTitle, keptCode, keptSub, keptPieces}
-use Rattle.address.specs.Steps.Plan.{Ready, headOctets, wireOf, Plan, othersOctets}
+use Rattle.address.specs.Again.{withUnknown}
+use Rattle.address.specs.Listing.{otherPlaces}
+use Rattle.address.specs.Steps.Plan.{Ready, headOctets, wireOf, digitsBy, Plan, othersOctets}
 use Rattle.address.specs.declared.parts.Parts.{Parts}
+use Rattle.address.proofs.Others.{count-known}
+use Rattle.address.proofs.Unknown.{alike, subs-same}
 use Rattle.address.proofs.Planning.{paramOf, codeParam, subOne, rest, kept-written, others-sum}
 use Rattle.address.proofs.Plans.{plan-octets, wire-length}
 use Rattle.address.proofs.Copying.{othersOf, done-octets, lent-length}
@@ -103,19 +109,36 @@ module _ (head : List ℕ) (ts cs us os : List Param) where
       let x = extend (runOctets os) last at (length d - at) b place (omega (arith, b .same)) (omega (arith, b .same)) put in
       delivered total (subst (λ (w : List ℕ). Begun out w (putMid at (length d - at) d last)) parts-octets x) size
 
+  -- The last list is empty: all is written without it.
+  pub parts-none :
+      {out d : List ℕ} (total : ℕ)
+      → os ≡ []
+      → Begun out (partsOctets head ts cs us) d
+      → length (head ++ runOctets (ts ++ (cs ++ (us ++ os)))) ≡ total
+      → record { answer = accepted total; buffer = d } ≡ deliver (accepted (head ++ runOctets (ts ++ (cs ++ (us ++ os))))) out
+  unfolding runOctets
+  parts-none {out} {d} total none b size =
+      let whole : partsOctets head ts cs us ≡ head ++ runOctets (ts ++ (cs ++ (us ++ os))) =
+      sym (append-nil (partsOctets head ts cs us)) ∙ ap (λ ps. partsOctets head ts cs us ++ runOctets ps) (sym none) ∙ parts-octets in
+      delivered total (subst (λ (w : List ℕ). Begun out w d) whole b) size
+
+empty : {X : Type 0} (xs : List X) → length xs ≤ 0 → xs ≡ []
+empty [] h = refl
+empty (x ∷ xs) h = absurd (omega arith)
+
 -- The sub-parameters of a plan, part by part.
-pub record Pieces (v : List ℕ) (s : Parts) (total : ℕ) (p : Plan v s total) : Type 0 where
+pub record Pieces (v : List ℕ) (s : Parts) (total : ℕ) (p : Plan withUnknown v s total) : Type 0 where
   pub titled : List Param
-  pub title : each (subParam builtIn) (present title (keptTitle builtIn v (s .title))) ≡ accepted titled
+  pub title : each (subParam withUnknown) (present title (keptTitle builtIn v (s .title))) ≡ accepted titled
   pub whole : titled ++ rest v s (p .read .known .places) ≡ p .params
 
-pub planned-pieces : {v : List ℕ} {s : Parts} {total : ℕ} (p : Plan v s total) → Pieces v s total p
+pub planned-pieces : {v : List ℕ} {s : Parts} {total : ℕ} (p : Plan withUnknown v s total) → Pieces v s total p
 unfolding keptPieces
 planned-pieces {v} {s} p =
-    let (us, vs, hu, hv, j) = each-split (subParam builtIn) (present title (keptTitle builtIn v (s .title))) _ (p .params) (p .written) in
-    record { titled = us; title = hu; whole = accepted-inj (sym (kept-written v s (p .read .known .places) us hu) ∙ p .written) }
+    let (us, vs, hu, hv, j) = each-split (subParam withUnknown) (present title (keptTitle builtIn v (s .title))) _ (p .params) (p .written) in
+    record { titled = us; title = hu; whole = accepted-inj (sym (kept-written v s (p .read .known .places) withUnknown us hu) ∙ p .written) }
 
-module _ {v : List ℕ} {s : Parts} {total : ℕ} (p : Plan v s total) where
+module _ {v : List ℕ} {s : Parts} {total : ℕ} (p : Plan withUnknown v s total) where
   abbrev pub codes : List Param
   codes = paramOf codeParam (keptCode v (s .code))
 
@@ -140,7 +163,7 @@ module _ {v : List ℕ} {s : Parts} {total : ℕ} (p : Plan v s total) where
       → length (partsOctets (headOctets v) (planned-pieces p .titled) codes subs) ≡ at
       → at + runLength others ≤ length out
       → last ≡ othersOctets v ++ drop (length (othersOctets v)) (midOf at (length d - at) d)
-      → record { answer = accepted total; buffer = putMid at (length d - at) d last } ≡ deliver (after (readAddress builtIn v) (writeAddress builtIn 0)) out
+      → record { answer = accepted total; buffer = putMid at (length d - at) d last } ≡ deliver (after (readAddress builtIn v) (writeAddress withUnknown 0)) out
   planned-done out d last at b place room e =
       let q = planned-pieces p in
       let o = done-octets v (p .read .known .places) (p .read .known .walked) in
@@ -148,8 +171,37 @@ module _ {v : List ℕ} {s : Parts} {total : ℕ} (p : Plan v s total) where
       let same = ap (wireOf v) (q .whole) in
       parts-done (headOctets v) (q .titled) codes subs others at total b place room put (ap length same ∙ wire-length v (p .params) ∙ p .size)
       ∙ ap (λ w. deliver (accepted w) out) same
-      ∙ ap (λ (o : Outcome (List ℕ)). deliver o out) (sym (plan-octets 0 p))
+      ∙ ap (λ (o : Outcome (List ℕ)). deliver o out) (sym (plan-octets (alike false) 0 p))
 
--- The tag is told only where the value is too long.
-pub any-tag : {v : List ℕ} {s : Parts} {total : ℕ} (tag : ℕ) (p : Plan v s total) → after (readAddress builtIn v) (writeAddress builtIn 0) ≡ after (readAddress builtIn v) (writeAddress builtIn tag)
-any-tag tag p = plan-octets 0 p ∙ sym (plan-octets tag p)
+  -- There are no others.
+  pub planned-none :
+      (out d : List ℕ)
+      → s .«other_count» ≤ 0
+      → Begun out (partsOctets (headOctets v) (planned-pieces p .titled) codes subs) d
+      → record { answer = accepted total; buffer = d } ≡ deliver (after (readAddress builtIn v) (writeAddress withUnknown 0)) out
+  planned-none out d few b =
+      let q = planned-pieces p in
+      let none = ap (map (valued v)) (empty (otherPlaces (p .read .known .places)) (omega (arith, count-known (p .read .known)))) in
+      let same = ap (wireOf v) (q .whole) in
+      parts-none (headOctets v) (q .titled) codes subs others total none b (ap length same ∙ wire-length v (p .params) ∙ p .size)
+      ∙ ap (λ w. deliver (accepted w) out) same
+      ∙ ap (λ (o : Outcome (List ℕ)). deliver o out) (sym (plan-octets (alike false) 0 p))
+
+-- A plan with checked digits is one without.
+pub as-read : (checked : Bool) {v : List ℕ} {s : Parts} {total : ℕ} → Plan (digitsBy checked) v s total → Plan withUnknown v s total
+as-read true {v} {s} p = record {
+  read = p .read;
+  params = p .params;
+  written = subs-same (keptPieces builtIn v s (p .read .known .places)) (p .params) (p .written);
+  size = p .size;
+  fits = p .fits;
+}
+as-read false p = p
+
+-- It is written the same; and the tag is told only where the value is too long.
+pub any-tag :
+    (checked : Bool) {v : List ℕ} {s : Parts} {total : ℕ} (tag : ℕ) (p : Plan (digitsBy checked) v s total)
+    → after (readAddress builtIn v) (writeAddress withUnknown 0) ≡ after (readAddress builtIn v) (writeAddress (digitsBy checked) tag)
+unfolding as-read
+any-tag true tag p = plan-octets (alike false) 0 (as-read true p) ∙ sym (plan-octets (alike true) tag p)
+any-tag false tag p = plan-octets (alike false) 0 p ∙ sym (plan-octets (alike false) tag p)

@@ -107,7 +107,7 @@ module _ (tag : ℕ) (a : SuaAddress) (values : List ℕ) (t : Table) where
     given-untitled n vs e =
         rw known
         (title-refuses (addressOf a os) (writeAddress builtIn tag) (a .«has_title») (a .«global_title») n vs e
-        (λ h. rw (parts-refused (flagged (a .«has_title») (titleOf (a .«global_title»))) (flagged (a .«has_point_code») (a .«point_code»)) (flagged (a .«has_ssn») (a .ssn)) os n vs h)))
+        (λ h. rw (parts-refused builtIn (flagged (a .«has_title») (titleOf (a .«global_title»))) (flagged (a .«has_point_code») (a .«point_code»)) (flagged (a .«has_ssn») (a .ssn)) os n vs h)))
 
     module _ (ts : List Param) (e : titled ≡ accepted ts) where
       front-small : runLength (frontOf a ts) ≤ 156
@@ -120,7 +120,7 @@ module _ (tag : ℕ) (a : SuaAddress) (values : List ℕ) (t : Table) where
       unfolding encodeAddressAs writeAddress pieces indicator
       given-pieces =
           let (goes, one) = title-accepts (addressOf a os) (a .«has_title») (a .«global_title») ts e in
-          rw (known, goes, parts-written (flagged (a .«has_title») (titleOf (a .«global_title»))) (flagged (a .«has_point_code») (a .«point_code»)) (flagged (a .«has_ssn») (a .ssn)) os ts one)
+          rw (known, goes, parts-written builtIn (flagged (a .«has_title») (titleOf (a .«global_title»))) (flagged (a .«has_point_code») (a .«point_code»)) (flagged (a .«has_ssn») (a .ssn)) os ts one)
 
       pieces-runs : each encodeParam (wholeOf a ts os) ≡ mapped (λ w. runOctets (frontOf a ts) ++ w) (each encodeParam os)
       pieces-runs =

@@ -42,7 +42,7 @@ module _ (b : Bool) (g : GlobalTitle) where
       → g .count ≤ 255
       → o ≡ mapped length (writeDigits builtIn (take (g .count) (g .digits)))
       → mapped (λ n. (n + 15) / 4 * 4) o ≡ mapped runLength (givenTitle b g)
-  title-counted o e h k = ap (mapped (λ n. (n + 15) / 4 * 4)) k ∙ sym (title-sized (titleOf g)) ∙ sym (ap (mapped runLength) (title-few e h))
+  title-counted o e h k = ap (mapped (λ n. (n + 15) / 4 * 4)) k ∙ sym (title-sized builtIn (titleOf g)) ∙ sym (ap (mapped runLength) (title-few e h))
 
   pub title-none : b ≡ false → accepted 0 ≡ mapped runLength (givenTitle b g)
   unfolding runLength
@@ -83,7 +83,7 @@ title-refuses x f false g n vs e k = absurd (never (sym e))
 pub title-small : (b : Bool) (g : GlobalTitle) (n : ℕ) → accepted n ≡ mapped runLength (givenTitle b g) → n ≤ 140
 title-small b g n e =
     let (qs, h, l) = mapped-inv runLength (givenTitle b g) (sym e) in
-    flagged-small b (titleOf g) n (e ∙ ap (mapped runLength) (h ∙ sym (title-accepts g b g qs h .1)))
+    flagged-small builtIn builtIn-lawful b (titleOf g) n (e ∙ ap (mapped runLength) (h ∙ sym (title-accepts g b g qs h .1)))
 
 -- A title for which there is room.
 pub record TitleRoom (g : GlobalTitle) (out : List ℕ) : Type 0 where

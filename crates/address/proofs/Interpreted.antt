@@ -6,7 +6,7 @@ use mathlib.Core.List.{List, map}
 use borrow.Author.Tests.{leb-true}
 use lib.Dec.{leb}
 use lib.ListN.{length, getD}
-use Rattle.bcd.specs.Outcome.{Outcome, accepted, refused, Octets, most}
+use Rattle.bcd.specs.Outcome.{Outcome, accepted, refused, pick, Octets, most}
 use Rattle.bcd.specs.Digits.{builtIn}
 use Rattle.bcd.proofs.Outcomes.{never, after-inv, mapped-inv, demand-inv}
 use Rattle.parameter.specs.Parameter.{twoAt}
@@ -15,10 +15,10 @@ use Rattle.parameter.specs.Walk.{valued, places}
 use Rattle.parameter.specs.declared.Place.{Place}
 use Rattle.parameter.proofs.Structure.{places-parameters}
 use Rattle.address.specs.Address.{Address, addressWith, addressIn, readAddress}
-use Rattle.address.specs.Parts.{nothing, noteAll, interpreted}
+use Rattle.address.specs.Parts.{isShort, nothing, noteAll, interpreted}
 use Rattle.address.specs.Steps.Kept.{judged, shortRefusal}
 use Rattle.address.specs.Steps.Plan.{Walked, Read}
-use Rattle.address.specs.declared.parts.Kept.{Kept}
+use Rattle.address.specs.declared.parts.Short.{Short}
 use Rattle.address.specs.declared.parts.Parts.{Parts}
 use Rattle.address.proofs.Keeping.{pieceAt}
 use Rattle.address.proofs.Interpreting.{read-parts}
@@ -32,7 +32,7 @@ module _ {v : List ℕ} {s : Parts} (k : Walked v s) where
   pub read-known : readAddress builtIn v ≡ judged (s .short) (accepted address)
   read-known = rw (k .parts) (read-parts builtIn v (k .places) (k .within) (k .long) (k .routing) (k .walked))
 
-  pub read-short : s .short .there ≡ true → readAddress builtIn v ≡ shortRefusal (s .short .place)
+  pub read-short : isShort (s .short) ≡ true → readAddress builtIn v ≡ shortRefusal (s .short)
   read-short e = read-known ∙ rw e
 
 pub read-whole : {v : List ℕ} {s : Parts} (r : Read v s) → readAddress builtIn v ≡ accepted (address (r .known))
@@ -48,10 +48,10 @@ unfolding interpreted
 refused-interpreted v n vs e = rw e
 
 -- And the other way round.
-unjudged : {X : Type 0} (x y : X) (k : Kept) → judged k (accepted x) ≡ accepted y → k .there ≡ false
-unjudged x y k e = go (k .there) e
+unjudged : {X : Type 0} (x y : X) (k : Short) → judged k (accepted x) ≡ accepted y → isShort k ≡ false
+unjudged {X} x y k e = go (isShort k) e
   where
-    go : (t : Bool) → judged (record { there = t; place = k .place }) (accepted x) ≡ accepted y → t ≡ false
+    go : (t : Bool) → pick {A = Outcome X} t (shortRefusal k) (accepted x) ≡ accepted y → t ≡ false
     go true e = absurd (never e)
     go false e = refl
 

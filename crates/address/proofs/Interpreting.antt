@@ -7,7 +7,7 @@ use mathlib.Core.Option.{none, some}
 use mathlib.Core.List.{List, [], _∷_, map}
 use native.Mathlib.Omega.{arith}
 use borrow.Author.Tests.{le-leb, lt-leb}
-use lib.ListN.{length, getD, drop}
+use lib.ListN.{length, getD, take, drop}
 use Rattle.bcd.specs.Outcome.{accepted, refused, pick, mapped, All, most}
 use Rattle.bcd.specs.Digits.{Alphabet}
 use Rattle.bcd.proofs.Outcomes.{never, le-or-lt, bounded-within, bounded-beyond}
@@ -27,36 +27,36 @@ use Rattle.address.specs.Steps.Kept.{judged, keptTitle, keptCode, keptSu
 use Rattle.address.specs.Listing.{otherPlaces}
 use Rattle.address.specs.declared.parts.Parts.{Parts}
 use Rattle.parameter.proofs.Records.{value-length}
-use Rattle.address.proofs.Keeping.{kinds, Inside, pieceBy, pieceAt, pieces-judged, judged-mapped, last-holds}
+use Rattle.address.proofs.Keeping.{kinds, Inside, Behind, pieceBy, pieceAt, pieces-judged, judged-mapped, last-holds}
 
 -- the four ways to note a sub-parameter
 abbrev pub by : Bool → Bool → Bool → Parts → Place → Parts
 by a b c s p = pick a (notedTitle s p) (pick b (notedCode s p) (pick c (notedSsn s p) (notedOther s p)))
 
 module _ (A : Alphabet) (v : List ℕ) (ps : List Place) where
-  pub title-holds : last asTitle (map (pieceAt A v) ps) ≡ keptTitle A v (noteAll nothing ps .title)
+  pub title-holds : All Behind ps → last asTitle (map (pieceAt A v) ps) ≡ keptTitle A v (noteAll nothing ps .title)
   unfolding noted
-  title-holds =
-      last-holds 0x8001 (pieceAt A v) asTitle (λ p. titleAt A (valued v p .value)) (λ s. s .title)
+  title-holds h =
+      last-holds 0x8001 (pieceAt A v) asTitle (λ start length. titleAt A (take length (drop start v))) (λ s. s .title)
       (λ p. kinds (λ a b c. asTitle (pieceBy A v a b c p) ≡ pick a (some (titleAt A (valued v p .value))) none) (p .tag) refl refl refl refl)
       (λ s p. kinds (λ a b c. by a b c s p .title ≡ pick a (keptPlace p) (s .title)) (p .tag) refl refl refl refl)
-      nothing ps
+      nothing ps h
 
-  pub code-holds : last asCode (map (pieceAt A v) ps) ≡ keptCode v (noteAll nothing ps .code)
+  pub code-holds : All Behind ps → last asCode (map (pieceAt A v) ps) ≡ keptCode v (noteAll nothing ps .code)
   unfolding noted
-  code-holds =
-      last-holds 0x8002 (pieceAt A v) asCode (λ p. fourIn (valued v p .value)) (λ s. s .code)
+  code-holds h =
+      last-holds 0x8002 (pieceAt A v) asCode (λ start length. fourIn (take length (drop start v))) (λ s. s .code)
       (λ p. kinds (λ a b c. asCode (pieceBy A v a b c p) ≡ pick b (some (fourIn (valued v p .value))) none) (p .tag) refl refl refl refl)
       (λ s p. kinds (λ a b c. by a b c s p .code ≡ pick b (keptPlace p) (s .code)) (p .tag) refl refl refl refl)
-      nothing ps
+      nothing ps h
 
-  pub sub-holds : last asSub (map (pieceAt A v) ps) ≡ keptSub v (noteAll nothing ps .ssn)
+  pub sub-holds : All Behind ps → last asSub (map (pieceAt A v) ps) ≡ keptSub v (noteAll nothing ps .ssn)
   unfolding noted
-  sub-holds =
-      last-holds 0x8003 (pieceAt A v) asSub (λ p. getD (valued v p .value) 3 0) (λ s. s .ssn)
+  sub-holds h =
+      last-holds 0x8003 (pieceAt A v) asSub (λ start length. getD (take length (drop start v)) 3 0) (λ s. s .ssn)
       (λ p. kinds (λ a b c. asSub (pieceBy A v a b c p) ≡ pick c (some (getD (valued v p .value) 3 0)) none) (p .tag) refl refl refl refl)
       (λ s p. kinds (λ a b c. by a b c s p .ssn ≡ pick c (keptPlace p) (s .ssn)) (p .tag) refl refl refl refl)
-      nothing ps
+      nothing ps h
 
   pub others-hold : othersIn (map (pieceAt A v) ps) ≡ map (valued v) (otherPlaces ps)
   others-hold = go ps
@@ -69,9 +69,9 @@ module _ (A : Alphabet) (v : List ℕ) (ps : List Place) where
           (go ps) (go ps) (go ps) (ap (λ qs. valued v p ∷ qs) (go ps))
 
   -- The pieces that hold are those that are written.
-  pub kept-pieces : (routing bits : ℕ) → pieces (addressWith routing bits (map (pieceAt A v) ps)) ≡ keptPieces A v (noteAll nothing ps) ps
+  pub kept-pieces : All Behind ps → (routing bits : ℕ) → pieces (addressWith routing bits (map (pieceAt A v) ps)) ≡ keptPieces A v (noteAll nothing ps) ps
   unfolding pieces addressWith keptPieces
-  kept-pieces routing bits = rw (title-holds, code-holds, sub-holds, others-hold)
+  kept-pieces h routing bits = rw (title-holds h, code-holds h, sub-holds h, others-hold)
 
   -- An address value whose sub-parameters are at these places.
   pub read-parts :

@@ -4,6 +4,7 @@ pub mod Pieces
 pub mod SubParams
 pub mod Rewriting
 pub mod Writable
+pub mod Unknown
 pub mod Records
 pub mod Surveying
 pub mod Keeping

@@ -11,7 +11,7 @@ use lib.Dec.{leb}
 use lib.ListN.{length, getD, take, drop, length-drop}
 use lib.Seq.{take-all}
 use Rattle.bcd.specs.Outcome.{Outcome, accepted, refused, pick, after, mapped, each, All, Octets, most}
-use Rattle.bcd.specs.Digits.{builtIn, digitsIn, readDigits, writeDigits}
+use Rattle.bcd.specs.Digits.{Alphabet, Lawful, builtIn, digitsIn, readDigits, writeDigits}
 use Rattle.bcd.proofs.Outcomes.{accepted-inj, never, le-or-lt, mapped-inv, demand-inv, bounded-within, each-append}
 use Rattle.bcd.proofs.Characters.{builtIn-lawful}
 use Rattle.bcd.proofs.Writable.{write-inv}
@@ -25,13 +25,14 @@ use Rattle.parameter.proofs.RoundTrip.{run-length-append}
 use Rattle.parameter.proofs.Reading.{parameters-room}
 use Rattle.address.specs.Address.{titleAt, Title, Piece, titleOctets, writeTitle, title, code, sub, other, present, subParam}
 use Rattle.address.specs.Records.{flagged}
-use Rattle.address.specs.Parts.{nothing, noted, noteAll, sooner}
-use Rattle.address.specs.Steps.Kept.{keptTitle, keptCode, keptSub, keptPieces}
+use Rattle.address.specs.Parts.{isKept, isShort, nothing, noted, noteAll, sooner}
+use Rattle.address.specs.Steps.Kept.{keptValue, keptTitle, keptCode, keptSub, keptPieces}
 use Rattle.address.specs.Listing.{otherPlaces}
 use Rattle.address.specs.Steps.Plan.{HeldIn, Walked}
 use Rattle.address.specs.declared.parts.Kept.{Kept}
+use Rattle.address.specs.declared.parts.Short.{Short}
 use Rattle.address.specs.declared.parts.Parts.{Parts}
-use Rattle.address.proofs.Keeping.{kinds, Inside}
+use Rattle.address.proofs.Keeping.{kinds, kinds-tagged, Inside}
 use Rattle.address.proofs.Interpreting.{by, others-length}
 
 pub each-one : {A B : Type 0} (f : A → Outcome (List B)) (x : A) → each f (x ∷ []) ≡ f x
@@ -59,9 +60,9 @@ walked v s o within long routing e =
     record { octets = o; within = within; long = long; routing = routing; places = ps; walked = w; parts = sym p }
 
 -- A title's octets on the wire, by its digits.
-pub title-sized : (t : Title) → mapped runLength (subParam builtIn (title t)) ≡ mapped (λ n. (n + 15) / 4 * 4) (mapped length (writeDigits builtIn (t .digits)))
+pub title-sized : (A : Alphabet) (t : Title) → mapped runLength (subParam A (title t)) ≡ mapped (λ n. (n + 15) / 4 * 4) (mapped length (writeDigits A (t .digits)))
 unfolding subParam writeTitle runLength
-title-sized t = go (writeDigits builtIn (t .digits))
+title-sized A t = go (writeDigits A (t .digits))
   where
     go :
         (o : Outcome (List ℕ))
@@ -74,7 +75,7 @@ pub title-measured :
     (w : List ℕ)
     → mapped runLength (subParam builtIn (title (titleAt builtIn w)))
     ≡ mapped (λ n. (n + 15) / 4 * 4) (mapped length (writeDigits builtIn (digitsIn builtIn (drop 8 w) (getD w 4 0))))
-title-measured w = title-sized (titleAt builtIn w)
+title-measured w = title-sized builtIn (titleAt builtIn w)
 
 read-digits : (xs : List ℕ) (count : ℕ) → length xs ≤ most → after (readDigits builtIn xs count) (writeDigits builtIn) ≡ writeDigits builtIn (digitsIn builtIn xs count)
 unfolding readDigits
@@ -92,40 +93,44 @@ read-part v count h =
     ∙ read-digits (drop 8 v) count (omega (arith, length-drop 8 v))
 
 -- It takes at most 140 octets.
+module _ (A : Alphabet) (L : Lawful A) where
+  digits-few : (cs : List ℕ) (n : ℕ) → accepted n ≡ mapped length (writeDigits A cs) → n ≤ 128
+  unfolding writeDigits
+  digits-few cs n e =
+      let (os, w, k) = mapped-inv length (writeDigits A cs) (sym e) in
+      let (few, p) = demand-inv (leb (length cs) 255) 11 _ _ w in
+      let g = write-inv A L cs n e in
+      omega (arith, leb-true (length cs) 255 few, g .count)
+
+  title-small : (t : Title) (n : ℕ) → accepted n ≡ mapped runLength (subParam A (title t)) → n ≤ 140
+  title-small t n e =
+      let (k, hk, same) = mapped-inv (λ n. (n + 15) / 4 * 4) (mapped length (writeDigits A (t .digits))) (sym (e ∙ title-sized A t)) in
+      let s = digits-few (t .digits) k (sym hk) in
+      omega arith
+
+  pub flagged-small : (b : Bool) (t : Title) (n : ℕ) → accepted n ≡ mapped runLength (each (subParam A) (present title (flagged b t))) → n ≤ 140
+  unfolding runLength
+  flagged-small true t n e = title-small t n (e ∙ ap (mapped runLength) (each-one (subParam A) (title t)))
+  flagged-small false t n e = let z : n ≡ 0 = accepted-inj e in omega arith
+
 pub digits-small : (cs : List ℕ) (n : ℕ) → accepted n ≡ mapped length (writeDigits builtIn cs) → n ≤ 128
-unfolding writeDigits
-digits-small cs n e =
-    let (os, w, k) = mapped-inv length (writeDigits builtIn cs) (sym e) in
-    let (few, p) = demand-inv (leb (length cs) 255) 11 _ _ w in
-    let g = write-inv builtIn builtIn-lawful cs n e in
-    omega (arith, leb-true (length cs) 255 few, g .count)
-
-title-small : (t : Title) (n : ℕ) → accepted n ≡ mapped runLength (subParam builtIn (title t)) → n ≤ 140
-title-small t n e =
-    let (k, hk, same) = mapped-inv (λ n. (n + 15) / 4 * 4) (mapped length (writeDigits builtIn (t .digits))) (sym (e ∙ title-sized t)) in
-    let s = digits-small (t .digits) k (sym hk) in
-    omega arith
-
-pub flagged-small : (b : Bool) (t : Title) (n : ℕ) → accepted n ≡ mapped runLength (each (subParam builtIn) (present title (flagged b t))) → n ≤ 140
-unfolding runLength
-flagged-small true t n e = title-small t n (e ∙ ap (mapped runLength) (each-one (subParam builtIn) (title t)))
-flagged-small false t n e = let z : n ≡ 0 = accepted-inj e in omega arith
+digits-small = digits-few builtIn builtIn-lawful
 
 -- A title that is kept, and none.
-pub title-there :
-    (v : List ℕ) (k : Kept) (o : Outcome ℕ)
-    → k .there ≡ true
-    → o ≡ mapped runLength (subParam builtIn (title (titleAt builtIn (valued v (k .place) .value))))
-    → o ≡ mapped runLength (each (subParam builtIn) (present title (keptTitle builtIn v k)))
-title-there v k o e h = rw e (h ∙ ap (mapped runLength) (sym (each-one (subParam builtIn) (title (titleAt builtIn (valued v (k .place) .value))))))
+module _ (A : Alphabet) (v : List ℕ) (k : Kept) where
+  pub title-there :
+      (o : Outcome ℕ)
+      → isKept k ≡ true
+      → o ≡ mapped runLength (subParam A (title (titleAt builtIn (keptValue v k))))
+      → o ≡ mapped runLength (each (subParam A) (present title (keptTitle builtIn v k)))
+  title-there o e h = rw e (h ∙ ap (mapped runLength) (sym (each-one (subParam A) (title (titleAt builtIn (keptValue v k))))))
 
-pub kept-small :
-    (v : List ℕ) (k : Kept) (n : ℕ) → accepted n ≡ mapped runLength (each (subParam builtIn) (present title (keptTitle builtIn v k))) → n ≤ 140
-kept-small v k = flagged-small (k .there) (titleAt builtIn (valued v (k .place) .value))
+  pub kept-small : Lawful A → (n : ℕ) → accepted n ≡ mapped runLength (each (subParam A) (present title (keptTitle builtIn v k))) → n ≤ 140
+  kept-small L = flagged-small A L (isKept k) (titleAt builtIn (keptValue v k))
 
-pub title-absent : (v : List ℕ) (k : Kept) → k .there ≡ false → accepted 0 ≡ mapped runLength (each (subParam builtIn) (present title (keptTitle builtIn v k)))
-unfolding runLength
-title-absent v k e = rw e
+  pub title-absent : isKept k ≡ false → accepted 0 ≡ mapped runLength (each (subParam A) (present title (keptTitle builtIn v k)))
+  unfolding runLength
+  title-absent e = rw e
 
 -- Where none is too short, what is kept lies inside the value and is long enough.
 pub record Sound (v : List ℕ) (s : Parts) : Type 0 where
@@ -136,28 +141,28 @@ pub record Sound (v : List ℕ) (s : Parts) : Type 0 where
 unlike : {b : Bool} {X : Type 0} → b ≡ true → b ≡ false → X
 unlike {b} e f = let z : _≡_ {A = Bool} true false = sym e ∙ f in let n : _≡_ {A = ℕ} 0 1 = cc in absurd (omega arith)
 
-sooner-none : (k : Kept) (p : Place) (least : ℕ) → sooner k p least .there ≡ false → (k .there ≡ false) × (least ≤ p .length)
-sooner-none k p least e = kept (k .there) refl
+sooner-none : (k : Short) (p : Place) (least : ℕ) → 0 < p .tag → isShort (sooner k p least) ≡ false → (isShort k ≡ false) × (least ≤ p .length)
+sooner-none k p least tagged e = kept (isShort k) refl
   where
-    long : k .there ≡ false → (least ≤ p .length) ⊎ (p .length < least) → (k .there ≡ false) × (least ≤ p .length)
+    long : isShort k ≡ false → (least ≤ p .length) ⊎ (p .length < least) → (isShort k ≡ false) × (least ≤ p .length)
     long f (inl h) = (f, h)
-    long f (inr h) = unlike {X = (k .there ≡ false) × (least ≤ p .length)} refl (rw (f, lt-ltb (p .length) least h) at e)
+    long f (inr h) = unlike {X = (isShort k ≡ false) × (least ≤ p .length)} refl (rw (f, lt-ltb (p .length) least h, lt-ltb 0 (p .tag) tagged) at e)
 
-    kept : (t : Bool) → k .there ≡ t → (k .there ≡ false) × (least ≤ p .length)
-    kept true f = unlike {X = (k .there ≡ false) × (least ≤ p .length)} refl (rw f at e)
+    kept : (t : Bool) → isShort k ≡ t → (isShort k ≡ false) × (least ≤ p .length)
+    kept true f = unlike {X = (isShort k ≡ false) × (least ≤ p .length)} refl (rw (f, f) at e)
     kept false f = long f (le-or-lt least (p .length))
 
 module _ (v : List ℕ) where
-  note-sound : (s : Parts) (p : Place) → Inside v p → (s .short .there ≡ false → Sound v s) → noted s p .short .there ≡ false → Sound v (noted s p)
+  note-sound : (s : Parts) (p : Place) → Inside v p → (isShort (s .short) ≡ false → Sound v s) → isShort (noted s p .short) ≡ false → Sound v (noted s p)
   unfolding noted
   note-sound s p h f =
-      kinds (λ a b c. by a b c s p .short .there ≡ false → Sound v (by a b c s p)) (p .tag)
-      (λ e. let (t, l) = sooner-none (s .short) p 8 e in let k = f t in record { title = λ u. (h, l); code = k .code; ssn = k .ssn })
-      (λ e. let (t, l) = sooner-none (s .short) p 4 e in let k = f t in record { title = k .title; code = λ u. (h, l); ssn = k .ssn })
-      (λ e. let (t, l) = sooner-none (s .short) p 4 e in let k = f t in record { title = k .title; code = k .code; ssn = λ u. (h, l) })
+      kinds-tagged (λ a b c. isShort (by a b c s p .short) ≡ false → Sound v (by a b c s p)) (p .tag)
+      (λ z e. let (t, l) = sooner-none (s .short) p 8 z e in let k = f t in record { title = λ u. (h, l); code = k .code; ssn = k .ssn })
+      (λ z e. let (t, l) = sooner-none (s .short) p 4 z e in let k = f t in record { title = k .title; code = λ u. (h, l); ssn = k .ssn })
+      (λ z e. let (t, l) = sooner-none (s .short) p 4 z e in let k = f t in record { title = k .title; code = k .code; ssn = λ u. (h, l) })
       (λ e. let k = f e in record { title = k .title; code = k .code; ssn = k .ssn })
 
-  notes-sound : (s : Parts) (ps : List Place) → All (Inside v) ps → (s .short .there ≡ false → Sound v s) → noteAll s ps .short .there ≡ false → Sound v (noteAll s ps)
+  notes-sound : (s : Parts) (ps : List Place) → All (Inside v) ps → (isShort (s .short) ≡ false → Sound v s) → isShort (noteAll s ps .short) ≡ false → Sound v (noteAll s ps)
   unfolding noteAll
   notes-sound s [] h f e = f e
   notes-sound s (p ∷ ps) h f e = notes-sound (noted s p) ps (h .1) (note-sound s p (h .0) f) e
@@ -173,7 +178,7 @@ module _ {v : List ℕ} {s : Parts} (k : Walked v s) where
   inside : All (Inside v) (k .places)
   inside = places-inside v 4 (k .places) (k .walked)
 
-  pub sound : s .short .there ≡ false → Sound v s
+  pub sound : isShort (s .short) ≡ false → Sound v s
   sound e =
       let none : Sound v nothing = record { title = λ t. unlike {X = _} t refl; code = λ t. unlike {X = _} t refl; ssn = λ t. unlike {X = _} t refl } in
       rw (k .parts) (notes-sound v nothing (k .places) inside (λ e. none) (rw (k .parts) at e))
@@ -198,20 +203,21 @@ codeParam n = record { tag = 0x8002; value = four n }
 abbrev pub subOne : ℕ → Param
 subOne n = record { tag = 0x8003; value = 0 ∷ 0 ∷ 0 ∷ n ∷ [] }
 
-pub code-params : (o : Option ℕ) → each (subParam builtIn) (present code o) ≡ accepted (paramOf codeParam o)
-unfolding subParam
-code-params none = refl
-code-params (some n) = refl
+module _ (A : Alphabet) where
+  pub code-params : (o : Option ℕ) → each (subParam A) (present code o) ≡ accepted (paramOf codeParam o)
+  unfolding subParam
+  code-params none = refl
+  code-params (some n) = refl
 
-pub sub-params : (o : Option ℕ) → each (subParam builtIn) (present sub o) ≡ accepted (paramOf subOne o)
-unfolding subParam
-sub-params none = refl
-sub-params (some n) = refl
+  pub sub-params : (o : Option ℕ) → each (subParam A) (present sub o) ≡ accepted (paramOf subOne o)
+  unfolding subParam
+  sub-params none = refl
+  sub-params (some n) = refl
 
-other-params : (qs : List Param) → each (subParam builtIn) (map other qs) ≡ accepted qs
-unfolding subParam
-other-params [] = refl
-other-params (q ∷ qs) = rw (other-params qs)
+  other-params : (qs : List Param) → each (subParam A) (map other qs) ≡ accepted qs
+  unfolding subParam
+  other-params [] = refl
+  other-params (q ∷ qs) = rw (other-params qs)
 
 -- A point code or an SSN takes eight octets.
 pub four-length : (f : ℕ → Param) → ((n : ℕ) → length (f n .value) ≡ 4) → (b : Bool) (n : ℕ) → runLength (paramOf f (flagged b n)) ≡ pick b 8 0
@@ -246,37 +252,37 @@ behind-length b d c s os =
     (run-length-append (paramOf subOne (flagged d s)) _ ∙ ap (λ (a : ℕ). a + runLength os) (four-length subOne (λ n. refl) d s))
 
 -- The sub-parameters of any title, point code, SSN and others.
-module _ (t : Option Title) (c s : Option ℕ) (os : List Param) where
+module _ (A : Alphabet) (t : Option Title) (c s : Option ℕ) (os : List Param) where
   abbrev parts : List Piece
   parts = present title t ++ (present code c ++ (present sub s ++ map other os))
 
-  pub parts-written : (qs : List Param) → each (subParam builtIn) (present title t) ≡ accepted qs → each (subParam builtIn) parts ≡ accepted (qs ++ behind c s os)
+  pub parts-written : (qs : List Param) → each (subParam A) (present title t) ≡ accepted qs → each (subParam A) parts ≡ accepted (qs ++ behind c s os)
   parts-written qs e =
-      each-append (subParam builtIn) (present title t) _ qs (behind c s os) e
-      (each-append (subParam builtIn) (present code c) _ _ _ (code-params c)
-      (each-append (subParam builtIn) (present sub s) _ _ _ (sub-params s) (other-params os)))
+      each-append (subParam A) (present title t) _ qs (behind c s os) e
+      (each-append (subParam A) (present code c) _ _ _ (code-params A c)
+      (each-append (subParam A) (present sub s) _ _ _ (sub-params A s) (other-params A os)))
 
-  pub parts-refused : (n : ℕ) (vs : List ℕ) → each (subParam builtIn) (present title t) ≡ refused n vs → each (subParam builtIn) parts ≡ refused n vs
-  parts-refused n vs e = each-first-refused (subParam builtIn) (present title t) _ n vs e
+  pub parts-refused : (n : ℕ) (vs : List ℕ) → each (subParam A) (present title t) ≡ refused n vs → each (subParam A) parts ≡ refused n vs
+  parts-refused n vs e = each-first-refused (subParam A) (present title t) _ n vs e
 
 module _ (v : List ℕ) (s : Parts) (ps : List Place) where
   abbrev pub rest : List Param
   rest = behind (keptCode v (s .code)) (keptSub v (s .ssn)) (map (valued v) (otherPlaces ps))
 
   pub rest-length :
-      runLength rest ≡ pick (s .code .there) 8 0 + (pick (s .ssn .there) 8 0 + runLength (map (valued v) (otherPlaces ps)))
-  rest-length = behind-length (s .code .there) (s .ssn .there) _ _ (map (valued v) (otherPlaces ps))
+      runLength rest ≡ pick (isKept (s .code)) 8 0 + (pick (isKept (s .ssn)) 8 0 + runLength (map (valued v) (otherPlaces ps)))
+  rest-length = behind-length (isKept (s .code)) (isKept (s .ssn)) _ _ (map (valued v) (otherPlaces ps))
 
   pub kept-written :
-      (qs : List Param)
-      → each (subParam builtIn) (present title (keptTitle builtIn v (s .title))) ≡ accepted qs
-      → each (subParam builtIn) (keptPieces builtIn v s ps) ≡ accepted (qs ++ rest)
+      (A : Alphabet) (qs : List Param)
+      → each (subParam A) (present title (keptTitle builtIn v (s .title))) ≡ accepted qs
+      → each (subParam A) (keptPieces builtIn v s ps) ≡ accepted (qs ++ rest)
   unfolding keptPieces
-  kept-written = parts-written (keptTitle builtIn v (s .title)) (keptCode v (s .code)) (keptSub v (s .ssn)) (map (valued v) (otherPlaces ps))
+  kept-written A = parts-written A (keptTitle builtIn v (s .title)) (keptCode v (s .code)) (keptSub v (s .ssn)) (map (valued v) (otherPlaces ps))
 
   pub kept-refused :
-      (n : ℕ) (vs : List ℕ)
-      → each (subParam builtIn) (present title (keptTitle builtIn v (s .title))) ≡ refused n vs
-      → each (subParam builtIn) (keptPieces builtIn v s ps) ≡ refused n vs
+      (A : Alphabet) (n : ℕ) (vs : List ℕ)
+      → each (subParam A) (present title (keptTitle builtIn v (s .title))) ≡ refused n vs
+      → each (subParam A) (keptPieces builtIn v s ps) ≡ refused n vs
   unfolding keptPieces
-  kept-refused = parts-refused (keptTitle builtIn v (s .title)) (keptCode v (s .code)) (keptSub v (s .ssn)) (map (valued v) (otherPlaces ps))
+  kept-refused A = parts-refused A (keptTitle builtIn v (s .title)) (keptCode v (s .code)) (keptSub v (s .ssn)) (map (valued v) (otherPlaces ps))

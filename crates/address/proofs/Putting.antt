@@ -11,13 +11,14 @@ use Rattle.bcd.specs.Digits.{builtIn}
 use Rattle.bcd.proofs.Outcomes.{accepted-inj, deliver-buffer, all-take, all-drop}
 use Rattle.bcd.proofs.Writing.{begin, untouched, delivered}
 use Rattle.parameter.specs.Parameter.{Param, four, fourIn, twoAt, paddedLength, paramOctets, runOctets, runLength, mostValue, encodeParam}
-use Rattle.parameter.specs.Walk.{valued}
 use Rattle.parameter.proofs.RoundTrip.{octets-length}
 use Rattle.parameter.proofs.Encoding.{encode-within}
 use Rattle.parameter.proofs.Running.{part-of}
 use Rattle.address.specs.Address.{titleAt, title, code, sub, present, subParam}
 use Rattle.address.specs.Records.{flagged}
-use Rattle.address.specs.Steps.Kept.{keptTitle, keptCode, keptSub}
+use Rattle.address.specs.Parts.{isKept}
+use Rattle.address.specs.Again.{withUnknown}
+use Rattle.address.specs.Steps.Kept.{keptValue, keptTitle, keptCode, keptSub}
 use Rattle.address.specs.Steps.Plan.{Ready}
 use Rattle.address.specs.declared.parts.Kept.{Kept}
 use Rattle.address.proofs.Planning.{each-one, paramOf, codeParam, subOne, code-params, sub-params, four-length}
@@ -76,32 +77,32 @@ ssn-patched (a ∷ b ∷ c ∷ d ∷ w) r h = refl
 
 module _ (v : List ℕ) (k : Kept) (out : List ℕ) where
   -- What is written takes eight octets, if it is there.
-  pub code-room : Ready (each (subParam builtIn) (present code (keptCode v k))) out → k .there ≡ true → 8 ≤ length out
+  pub code-room : Ready (each (subParam withUnknown) (present code (keptCode v k))) out → isKept k ≡ true → 8 ≤ length out
   code-room y e =
-      let l = four-length codeParam (λ n. refl) (k .there) (fourIn (valued v (k .place) .value)) in
-      let p = accepted-inj (sym (y .accepts) ∙ code-params (keptCode v k)) in
+      let l = four-length codeParam (λ n. refl) (isKept k) (fourIn (keptValue v k)) in
+      let p = accepted-inj (sym (y .accepts) ∙ code-params withUnknown (keptCode v k)) in
       let s = rw e at (sym (ap runLength p ∙ l)) in
       omega (arith, y .room)
 
-  pub sub-room : Ready (each (subParam builtIn) (present sub (keptSub v k))) out → k .there ≡ true → 8 ≤ length out
+  pub sub-room : Ready (each (subParam withUnknown) (present sub (keptSub v k))) out → isKept k ≡ true → 8 ≤ length out
   sub-room y e =
-      let l = four-length subOne (λ n. refl) (k .there) (getD (valued v (k .place) .value) 3 0) in
-      let p = accepted-inj (sym (y .accepts) ∙ sub-params (keptSub v k)) in
+      let l = four-length subOne (λ n. refl) (isKept k) (getD (keptValue v k) 3 0) in
+      let p = accepted-inj (sym (y .accepts) ∙ sub-params withUnknown (keptSub v k)) in
       let s = rw e at (sym (ap runLength p ∙ l)) in
       omega (arith, y .room)
 
-  module _ (there : k .there ≡ true) (inside : k .place .start + k .place .length ≤ length v) (long : 4 ≤ k .place .length) (room : 8 ≤ length out) where
+  module _ (there : isKept k ≡ true) (inside : k .start + k .length ≤ length v) (long : 4 ≤ k .length) (room : 8 ≤ length out) where
     abbrev start : ℕ
-    start = k .place .start
+    start = k .start
 
     abbrev value : List ℕ
-    value = valued v (k .place) .value
+    value = keptValue v k
 
     value-long : 4 ≤ length value
-    value-long = rw (length-take (k .place .length) (drop start v), length-drop start v) (omega arith)
+    value-long = rw (length-take (k .length) (drop start v), length-drop start v) (omega arith)
 
     front : take (start + 4 - start) (drop start v) ≡ take 4 value
-    front = part-of start 4 v ∙ sym (take-take 4 (k .place .length) (drop start v) long)
+    front = part-of start 4 v ∙ sym (take-take 4 (k .length) (drop start v) long)
 
     four-octets : length (take 4 value) ≡ 4
     four-octets = length-take-le 4 value value-long
@@ -120,52 +121,52 @@ module _ (v : List ℕ) (k : Kept) (out : List ℕ) where
         (last : List ℕ)
         → Octets v
         → last ≡ paramOctets (record { tag = 0x8002; value = take 4 value }) ++ drop 8 out
-        → record { answer = accepted 8; buffer = last } ≡ deliver (mapped runOctets (each (subParam builtIn) (present code (keptCode v k)))) out
+        → record { answer = accepted 8; buffer = last } ≡ deliver (mapped runOctets (each (subParam withUnknown) (present code (keptCode v k)))) out
     code-put last o e =
-        let ov = all-take (λ (x : ℕ). x < 256) (k .place .length) (drop start v) (all-drop (λ (x : ℕ). x < 256) start v o) in
+        let ov = all-take (λ (x : ℕ). x < 256) (k .length) (drop start v) (all-drop (λ (x : ℕ). x < 256) start v o) in
         let same = ap (λ w. paramOctets (record { tag = 0x8002; value = w }) ++ drop 8 out) (four-again value value-long ov) in
-        let known = code-params (keptCode v k) ∙ ap (λ (b : Bool). accepted (paramOf codeParam (flagged b (fourIn value)))) there in
+        let known = code-params withUnknown (keptCode v k) ∙ ap (λ (b : Bool). accepted (paramOf codeParam (flagged b (fourIn value)))) there in
         one-delivered (codeParam (fourIn value)) 8 last out (e ∙ same) refl room
         ∙ ap (λ (o : Outcome (List Param)). deliver (mapped runOctets o) out) (sym known)
 
     pub sub-put :
         (last : List ℕ)
         → last ≡ paramOctets (record { tag = 0x8003; value = take 4 value }) ++ drop 8 out
-        → record { answer = accepted 8; buffer = set (set (set last 4 0) 5 0) 6 0 } ≡ deliver (mapped runOctets (each (subParam builtIn) (present sub (keptSub v k)))) out
+        → record { answer = accepted 8; buffer = set (set (set last 4 0) 5 0) 6 0 } ≡ deliver (mapped runOctets (each (subParam withUnknown) (present sub (keptSub v k)))) out
     sub-put last e =
-        let known = sub-params (keptSub v k) ∙ ap (λ (b : Bool). accepted (paramOf subOne (flagged b (getD value 3 0)))) there in
+        let known = sub-params withUnknown (keptSub v k) ∙ ap (λ (b : Bool). accepted (paramOf subOne (flagged b (getD value 3 0)))) there in
         one-delivered (subOne (getD value 3 0)) 8 _ out
         (ap (λ d. set (set (set d 4 0) 5 0) 6 0) e ∙ ssn-patched value (drop 8 out) value-long) refl room
         ∙ ap (λ (o : Outcome (List Param)). deliver (mapped runOctets o) out) (sym known)
 
-  pub code-absent : k .there ≡ false → record { answer = accepted 0; buffer = out } ≡ deliver (mapped runOctets (each (subParam builtIn) (present code (keptCode v k)))) out
+  pub code-absent : isKept k ≡ false → record { answer = accepted 0; buffer = out } ≡ deliver (mapped runOctets (each (subParam withUnknown) (present code (keptCode v k)))) out
   code-absent e = rw e (none-delivered out)
 
-  pub sub-absent : k .there ≡ false → record { answer = accepted 0; buffer = out } ≡ deliver (mapped runOctets (each (subParam builtIn) (present sub (keptSub v k)))) out
+  pub sub-absent : isKept k ≡ false → record { answer = accepted 0; buffer = out } ≡ deliver (mapped runOctets (each (subParam withUnknown) (present sub (keptSub v k)))) out
   sub-absent e = rw e (none-delivered out)
 
-  pub title-absent : k .there ≡ false → record { answer = accepted 0; buffer = out } ≡ deliver (mapped runOctets (each (subParam builtIn) (present title (keptTitle builtIn v k)))) out
+  pub title-absent : isKept k ≡ false → record { answer = accepted 0; buffer = out } ≡ deliver (mapped runOctets (each (subParam withUnknown) (present title (keptTitle builtIn v k)))) out
   title-absent e = rw e (none-delivered out)
 
   -- A title that is kept, by its value.
-  title-known : k .there ≡ true → each (subParam builtIn) (present title (keptTitle builtIn v k)) ≡ subParam builtIn (title (titleAt builtIn (valued v (k .place) .value)))
-  title-known e = rw e (each-one (subParam builtIn) (title (titleAt builtIn (valued v (k .place) .value))))
+  title-known : isKept k ≡ true → each (subParam withUnknown) (present title (keptTitle builtIn v k)) ≡ subParam withUnknown (title (titleAt builtIn (keptValue v k)))
+  title-known e = rw e (each-one (subParam withUnknown) (title (titleAt builtIn (keptValue v k))))
 
   abbrev lent : List ℕ
-  lent = take (k .place .start + k .place .length - k .place .start) (drop (k .place .start) v)
+  lent = take (k .start + k .length - k .start) (drop (k .start) v)
 
-  pub title-ready : k .there ≡ true → Ready (each (subParam builtIn) (present title (keptTitle builtIn v k))) out → Ready (subParam builtIn (title (titleAt builtIn lent))) out
+  pub title-ready : isKept k ≡ true → Ready (each (subParam withUnknown) (present title (keptTitle builtIn v k))) out → Ready (subParam withUnknown (title (titleAt builtIn lent))) out
   title-ready e y = record {
     params = y .params;
-    accepts = ap (λ w. subParam builtIn (title (titleAt builtIn w))) (part-of (k .place .start) (k .place .length) v) ∙ sym (title-known e) ∙ y .accepts;
+    accepts = ap (λ w. subParam withUnknown (title (titleAt builtIn w))) (part-of (k .start) (k .length) v) ∙ sym (title-known e) ∙ y .accepts;
     room = y .room;
   }
 
   pub title-put :
       {r : Outcome ℕ} {last : List ℕ}
-      → k .there ≡ true
-      → record { answer = r; buffer = last } ≡ deliver (mapped runOctets (subParam builtIn (title (titleAt builtIn lent)))) out
-      → record { answer = r; buffer = last } ≡ deliver (mapped runOctets (each (subParam builtIn) (present title (keptTitle builtIn v k)))) out
+      → isKept k ≡ true
+      → record { answer = r; buffer = last } ≡ deliver (mapped runOctets (subParam withUnknown (title (titleAt builtIn lent)))) out
+      → record { answer = r; buffer = last } ≡ deliver (mapped runOctets (each (subParam withUnknown) (present title (keptTitle builtIn v k)))) out
   title-put e h =
-      h ∙ ap (λ w. deliver (mapped runOctets (subParam builtIn (title (titleAt builtIn w)))) out) (part-of (k .place .start) (k .place .length) v)
+      h ∙ ap (λ w. deliver (mapped runOctets (subParam withUnknown (title (titleAt builtIn w)))) out) (part-of (k .start) (k .length) v)
       ∙ ap (λ (o : Outcome (List Param)). deliver (mapped runOctets o) out) (sym (title-known e))

@@ -22,13 +22,13 @@ use Rattle.address.specs.Records.{titleOf, titleGiven, flagged, addressO
 use Rattle.address.specs.Titles.{recordOf, noTitle}
 use Rattle.address.specs.Listing.{isOther, otherPlaces, addressPlaces, isThere, addressRecord, recordIn, Listed, listed, listAddress}
 use Rattle.address.specs.Given.{encodeAddressAs, encodeAddress}
-use Rattle.address.specs.Parts.{nothing, noteAll}
-use Rattle.address.specs.Steps.Kept.{keptTitle}
+use Rattle.address.specs.Parts.{isKept, nothing, noteAll}
+use Rattle.address.specs.Steps.Kept.{keptValue, keptTitle}
 use Rattle.address.specs.Steps.Plan.{Read}
 use Rattle.address.specs.declared.SuaAddress.{SuaAddress}
 use Rattle.address.specs.declared.parts.Kept.{Kept}
 use Rattle.address.specs.declared.parts.Parts.{Parts}
-use Rattle.address.proofs.Keeping.{Inside}
+use Rattle.address.proofs.Keeping.{Inside, places-behind}
 use Rattle.address.proofs.Interpreting.{title-holds, others-hold}
 use Rattle.address.proofs.Interpreted.{address, read-whole, accepted-read}
 use Rattle.address.proofs.AddressRecords.{address-back}
@@ -40,13 +40,13 @@ FewDigits none = Unit {0}
 FewDigits (some t) = length (t .digits) ≤ 255
 
 kept-few : (v : List ℕ) (k : Kept) → Octets v → FewDigits (keptTitle builtIn v k)
-kept-few v k o = go (k .there)
+kept-few v k o = go (isKept k)
   where
     w : List ℕ
-    w = valued v (k .place) .value
+    w = keptValue v k
 
     octets : Octets w
-    octets = all-take (λ (x : ℕ). x < 256) (k .place .length) (drop (k .place .start) v) (all-drop (λ (x : ℕ). x < 256) (k .place .start) v o)
+    octets = all-take (λ (x : ℕ). x < 256) (k .length) (drop (k .start) v) (all-drop (λ (x : ℕ). x < 256) (k .start) v o)
 
     go : (b : Bool) → FewDigits (flagged b (titleAt builtIn w))
     go true = read-at-most builtIn (drop 8 w) (getD w 4 0) (omega (arith, octets-at w 4 octets))
@@ -118,7 +118,7 @@ module _ {v : List ℕ} {s : Parts} (y : Read v s) where
 
   few : FewDigits (a .title)
   unfolding addressWith
-  few = subst FewDigits (sym (title-holds builtIn v ps)) (kept-few v (noteAll nothing ps .title) (y .known .octets))
+  few = subst FewDigits (sym (title-holds builtIn v ps (places-behind v ps (y .known .walked)))) (kept-few v (noteAll nothing ps .title) (y .known .octets))
 
   pub routing : a .routing ≤ 4
   unfolding addressWith

@@ -6,14 +6,16 @@ use native.Mathlib.Omega.{arith}
 use lib.ListN.{length, getD, set, take, drop, replicate, length-append, length-drop}
 use lib.Seq.{take-add, take-suc, set-at, getD-at, length-take-le}
 use native.Mathlib.Numerals.{add-one}
-use Rattle.bcd.specs.Outcome.{Outcome, accepted, mapped, deliver}
+use Rattle.bcd.specs.Outcome.{Outcome, accepted, mapped, Octets, deliver}
 use Rattle.bcd.specs.Digits.{halves, pack, builtIn, digitsIn, writeDigits}
-use Rattle.bcd.proofs.Outcomes.{mapped-inv}
+use Rattle.bcd.proofs.Outcomes.{accepted-inj, octets-at, all-drop}
 use Rattle.bcd.proofs.Reading.{digits-length, digits-most}
-use Rattle.bcd.proofs.Rewriting.{rewritten-octets, octets-even, octets-odd, halves-packed}
+use Rattle.bcd.proofs.Rewriting.{octets-even, octets-odd, halves-packed}
 use Rattle.parameter.specs.Parameter.{Param, two, paddedLength, paramOctets, runOctets, runLength, mostValue, encodeParam}
-use Rattle.address.specs.Address.{titleAt, titleOctets, writeTitle, title, subParam}
+use Rattle.address.specs.Address.{titleAt, writeTitle, title, subParam}
+use Rattle.address.specs.Again.{withUnknown}
 use Rattle.address.specs.Steps.Plan.{Ready}
+use Rattle.address.proofs.Unknown.{digits-as-read}
 use Rattle.address.proofs.Putting.{encoded, one-delivered}
 
 -- A title's octets, by the eight in front and the digits' octets.
@@ -64,31 +66,38 @@ eight (a ∷ b ∷ c ∷ d ∷ e ∷ f ∷ []) h = absurd (omega arith)
 eight (a ∷ b ∷ c ∷ d ∷ e ∷ f ∷ g ∷ []) h = absurd (omega arith)
 
 -- What a title is written as: one sub-parameter, with the octets of the half octets that were read.
-module _ (w : List ℕ) (long : 8 ≤ length w) (n : ℕ) (count : n ≡ min (getD w 4 0) (2 * (length w - 8))) where
+module _ (w : List ℕ) (octets : Octets w) (long : 8 ≤ length w) (n : ℕ) (count : n ≡ min (getD w 4 0) (2 * (length w - 8))) where
   abbrev ds : List ℕ
   ds = drop 8 w
 
   there : n ≡ min (getD w 4 0) (2 * length ds)
   there = rw (length-drop 8 w) count
 
-  pub title-param : (qs : List Param) → subParam builtIn (title (titleAt builtIn w)) ≡ accepted qs
-      → qs ≡ titled 0 0 0 (getD w 3 0) n (getD w 5 0) (getD w 6 0) (getD w 7 0) (pack (take n (halves ds))) ∷ []
+  few-digits : n ≤ 255
+  few-digits = omega (arith, octets-at w 4 octets)
+
+  title-param : subParam withUnknown (title (titleAt builtIn w))
+      ≡ accepted (titled 0 0 0 (getD w 3 0) n (getD w 5 0) (getD w 6 0) (getD w 7 0) (pack (take n (halves ds))) ∷ [])
   unfolding subParam writeTitle
-  title-param qs e =
-      let (v, hv, same) = mapped-inv {B = List Param} (λ v. record { tag = 0x8001; value = v } ∷ []) (mapped (titleOctets (titleAt builtIn w)) (writeDigits builtIn (digitsIn builtIn ds (getD w 4 0)))) e in
-      let (os, ho, sv) = mapped-inv (titleOctets (titleAt builtIn w)) (writeDigits builtIn (digitsIn builtIn ds (getD w 4 0))) hv in
+  title-param =
       let most = sym (ap (digitsIn builtIn ds) there ∙ digits-most builtIn ds (getD w 4 0)) in
       let l : length (digitsIn builtIn ds (getD w 4 0)) ≡ n = digits-length builtIn ds (getD w 4 0) ∙ sym there in
-      let octets = rewritten-octets ds n os (sym (ap (writeDigits builtIn) most) ∙ ho) in
-      sym same ∙ ap (λ v. record { tag = 0x8001; value = v } ∷ []) (sym sv ∙ rw (octets, l))
+      let ho : writeDigits withUnknown (digitsIn builtIn ds (getD w 4 0)) ≡ accepted (pack (take n (halves ds))) =
+      ap (writeDigits withUnknown) most ∙ digits-as-read ds n (all-drop (λ (x : ℕ). x < 256) 8 w octets) few-digits in
+      rw (ho, l)
+
+  -- What it takes on the wire.
+  pub title-length : (r : ℕ) → r ≡ ((n + 1) / 2 + 15) / 4 * 4 → accepted r ≡ mapped runLength (subParam withUnknown (title (titleAt builtIn w)))
+  unfolding runLength
+  title-length r e = sym (ap (mapped runLength) title-param ∙ ap accepted (omega (arith, halves-packed ds n (omega (arith, there)))))
 
   octets-count : length (pack (take n (halves ds))) ≡ (n + 1) / 2
   octets-count = halves-packed ds n (omega (arith, there))
 
-  pub title-room : (out : List ℕ) → Ready (subParam builtIn (title (titleAt builtIn w))) out → paddedLength (8 + (n + 1) / 2) ≤ length out
+  pub title-room : (out : List ℕ) → Ready (subParam withUnknown (title (titleAt builtIn w))) out → paddedLength (8 + (n + 1) / 2) ≤ length out
   unfolding runLength
   title-room out y =
-      let l = ap runLength (title-param (y .params) (y .accepts)) in
+      let l = ap runLength (accepted-inj (sym (y .accepts) ∙ title-param)) in
       omega (arith, y .room, octets-count)
 
   -- the octets that are handed on, with the first eight apart
@@ -96,7 +105,7 @@ module _ (w : List ℕ) (long : 8 ≤ length w) (n : ℕ) (count : n ≡ min (ge
       ≡ getD w 0 0 ∷ getD w 1 0 ∷ getD w 2 0 ∷ getD w 3 0 ∷ getD w 4 0 ∷ getD w 5 0 ∷ getD w 6 0 ∷ getD w 7 0 ∷ take ((n + 1) / 2) ds
   given = take-add 8 ((n + 1) / 2) w ∙ ap (λ l. l ++ take ((n + 1) / 2) ds) (eight w long)
 
-  module _ (out : List ℕ) (y : Ready (subParam builtIn (title (titleAt builtIn w))) out) (last : List ℕ) (answer : Outcome ℕ)
+  module _ (out : List ℕ) (y : Ready (subParam withUnknown (title (titleAt builtIn w))) out) (last : List ℕ) (answer : Outcome ℕ)
       (e : record { answer = answer; buffer = last } ≡ deliver (encodeParam (record { tag = 0x8001; value = take (8 + (n + 1) / 2) w })) out) where
     abbrev kept : List ℕ → Param
     kept os = titled 0 0 0 (getD w 3 0) n (getD w 5 0) (getD w 6 0) (getD w 7 0) os
@@ -123,24 +132,23 @@ module _ (w : List ℕ) (long : 8 ≤ length w) (n : ℕ) (count : n ≡ min (ge
         (d : List ℕ) (l : ℕ)
         → l ≡ paddedLength (8 + (n + 1) / 2)
         → d ≡ paramOctets (kept (pack (take n (halves ds)))) ++ drop (paddedLength (8 + (n + 1) / 2)) out
-        → record { answer = accepted l; buffer = d } ≡ deliver (mapped runOctets (subParam builtIn (title (titleAt builtIn w)))) out
+        → record { answer = accepted l; buffer = d } ≡ deliver (mapped runOctets (subParam withUnknown (title (titleAt builtIn w)))) out
     done d l m h =
         let q = kept (pack (take n (halves ds))) in
-        let known = y .accepts ∙ ap accepted (title-param (y .params) (y .accepts)) in
         one-delivered q l d out (h ∙ ap (λ (k : ℕ). paramOctets q ++ drop k out) (sym m)) (omega (arith, octets-count)) (omega (arith, title-room out y))
-        ∙ ap (λ (o : Outcome (List Param)). deliver (mapped runOctets o) out) (sym known)
+        ∙ ap (λ (o : Outcome (List Param)). deliver (mapped runOctets o) out) (sym title-param)
 
     pub put-even :
         (l : ℕ)
         → n ≤ 255
         → n % 2 ≡ 0
         → l ≡ paddedLength (8 + (n + 1) / 2)
-        → record { answer = accepted l; buffer = patched } ≡ deliver (mapped runOctets (subParam builtIn (title (titleAt builtIn w)))) out
+        → record { answer = accepted l; buffer = patched } ≡ deliver (mapped runOctets (subParam withUnknown (title (titleAt builtIn w)))) out
     put-even l h even m =
         let k : n ≡ 2 * ((n + 1) / 2) = omega arith in
-        let octets : pack (take n (halves ds)) ≡ take ((n + 1) / 2) ds =
+        let same : pack (take n (halves ds)) ≡ take ((n + 1) / 2) ds =
         ap (λ (i : ℕ). pack (take i (halves ds))) k ∙ octets-even ((n + 1) / 2) ds (omega (arith, there)) in
-        done patched l m (buffer h ∙ ap (λ os. paramOctets (kept os) ++ drop (paddedLength (8 + (n + 1) / 2)) out) (sym octets))
+        done patched l m (buffer h ∙ ap (λ os. paramOctets (kept os) ++ drop (paddedLength (8 + (n + 1) / 2)) out) (sym same))
 
     pub put-odd :
         (l i : ℕ)
@@ -148,12 +156,12 @@ module _ (w : List ℕ) (long : 8 ≤ length w) (n : ℕ) (count : n ≡ min (ge
         → (n % 2 ≡ 0 → ⊥)
         → l ≡ paddedLength (8 + (n + 1) / 2)
         → i ≡ 11 + (n + 1) / 2
-        → record { answer = accepted l; buffer = set patched i (getD patched i 0 % 16) } ≡ deliver (mapped runOctets (subParam builtIn (title (titleAt builtIn w)))) out
+        → record { answer = accepted l; buffer = set patched i (getD patched i 0 % 16) } ≡ deliver (mapped runOctets (subParam withUnknown (title (titleAt builtIn w)))) out
     put-odd l i h odd m at =
         let k : n ≡ 2 * (n / 2) + 1 = omega arith in
         let half : (n + 1) / 2 ≡ n / 2 + 1 = omega arith in
         let short : n / 2 < length ds = omega (arith, there) in
-        let octets : pack (take n (halves ds)) ≡ take (n / 2) ds ++ (getD ds (n / 2) 0 % 16 ∷ []) =
+        let same : pack (take n (halves ds)) ≡ take (n / 2) ds ++ (getD ds (n / 2) 0 % 16 ∷ []) =
         ap (λ (i : ℕ). pack (take i (halves ds))) k ∙ octets-odd (n / 2) ds short in
         let split : take ((n + 1) / 2) ds ≡ take (n / 2) ds ++ (getD ds (n / 2) 0 ∷ []) = rw (half, add-one) (take-suc ds (n / 2) 0 short) in
         let r = drop (paddedLength (8 + (n + 1) / 2)) out in
@@ -161,4 +169,4 @@ module _ (w : List ℕ) (long : 8 ≤ length w) (n : ℕ) (count : n ≡ min (ge
         let place : i ≡ 12 + length (take (n / 2) ds) = rw (length-take-le (n / 2) ds (omega arith)) (omega arith) in
         done _ l m (ap (λ d. set d i (getD d i 0 % 16)) b
         ∙ patch-last 0 0 0 (getD w 3 0) n (getD w 5 0) (getD w 6 0) (getD w 7 0) (take (n / 2) ds) r (getD ds (n / 2) 0) i place
-        ∙ ap (λ os. paramOctets (kept os) ++ r) (sym octets))
+        ∙ ap (λ os. paramOctets (kept os) ++ r) (sym same))

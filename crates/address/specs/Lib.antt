@@ -5,6 +5,7 @@ pub mod Titles
 pub mod Listing
 pub mod Given
 pub mod Parts
+pub mod Again
 pub mod Lengths
 pub mod Facts
 pub mod Standing

@@ -1,6 +1,6 @@
 -- What `interpret` gives of an address value: the places that one walk over its sub-parameters keeps.
 use Prim.Native.Nat.{ℕ, _+_}
-use mathlib.Core.Bool.{Bool, true, false}
+use mathlib.Core.Bool.{Bool}
 use mathlib.Core.List.{List, [], _∷_}
 use lib.Dec.{ltb, eqb}
 use Rattle.bcd.specs.Outcome.{Outcome, accepted, pick, after, mapped}
@@ -11,29 +11,43 @@ use Rattle.parameter.specs.Walk.{places}
 use Rattle.parameter.specs.declared.Place.{Place}
 use Rattle.address.specs.Address.{readAddress}
 use Rattle.address.specs.declared.parts.Kept.{Kept}
+use Rattle.address.specs.declared.parts.Short.{Short}
 use Rattle.address.specs.declared.parts.Parts.{Parts}
 use Rattle.address.specs.declared.parts.Surveyed.{Surveyed}
 use Rattle.address.specs.declared.parts.Surveyed.the-variants as S
 
--- A sub-parameter that is kept, and none.
+-- A sub-parameter that is kept, and none; whether there is one.
 abbrev pub keptPlace : Place → Kept
-keptPlace p = record { there = true; place = p }
+keptPlace p = record { start = p .start; length = p .length }
 
 abbrev pub keptNone : Kept
-keptNone = record { there = false; place = record { tag = 0; start = 0; length = 0 } }
+keptNone = record { start = 0; length = 0 }
 
--- The one kept, or this one if it has too few octets.
-abbrev pub sooner : Kept → Place → ℕ → Kept
-sooner k p least = pick (k .there) k (pick (ltb (p .length) least) (keptPlace p) k)
+abbrev pub isKept : Kept → Bool
+isKept k = ltb 0 (k .start)
+
+-- A sub-parameter that is too short, and none; whether there is one.
+abbrev pub shortPlace : Place → Short
+shortPlace p = record { tag = p .tag; length = p .length }
+
+abbrev pub shortNone : Short
+shortNone = record { tag = 0; length = 0 }
+
+abbrev pub isShort : Short → Bool
+isShort k = ltb 0 (k .tag)
+
+-- The one that came first, or this one if it has too few octets.
+abbrev pub sooner : Short → Place → ℕ → Short
+sooner k p least = pick (isShort k) k (pick (ltb (p .length) least) (shortPlace p) k)
 
 -- The parts of what is kept: the first that is too short, title, point code, SSN, and the count and length of the others.
-abbrev pub partsWith : (short title code ssn : Kept) → (count length : ℕ) → Parts
+abbrev pub partsWith : (short : Short) → (title code ssn : Kept) → (count length : ℕ) → Parts
 partsWith short title code ssn count length =
     record { short = short; title = title; code = code; ssn = ssn; «other_count» = count; «other_length» = length }
 
 -- Before the walk nothing is kept.
 abbrev pub nothing : Parts
-nothing = partsWith keptNone keptNone keptNone keptNone 0 0
+nothing = partsWith shortNone keptNone keptNone keptNone 0 0
 
 -- One sub-parameter more, by its tag: the last of a kind is kept.
 abbrev pub notedTitle : Parts → Place → Parts

@@ -71,10 +71,9 @@ fn title_in(value: &[u8], kept: Kept) -> GlobalTitle
     requires { ⌜ length (now value) ≤ most ⌝ }
     ensures { λ r. ⌜ r ≡ Option·getD (Option·map recordOf (keptTitle builtIn (now (value .entry)) kept)) noTitle ⌝ }
 {
-    if kept.there {
-        let place = kept.place;
-        let start = place.start;
-        let end = start + place.length;
+    if 0 < kept.start {
+        let start = kept.start;
+        let end = start + kept.length;
         let read = GlobalTitle::decode(&value[start..end]);
         return read.title;
     }
@@ -87,10 +86,9 @@ fn code_in(value: &[u8], kept: Kept) -> u32
     requires { ⌜ length (now value) ≤ most ⌝ }
     ensures { λ r. ⌜ r ≡ Option·getD (keptCode (now (value .entry)) kept) 0 ⌝ }
 {
-    if kept.there {
-        let place = kept.place;
-        let start = place.start;
-        let end = start + place.length;
+    if 0 < kept.start {
+        let start = kept.start;
+        let end = start + kept.length;
         return match parameter::as_u32(&value[start..end]) {
             Number::Value(n) => n,
             Number::None => 0,
@@ -105,9 +103,8 @@ fn ssn_in(value: &[u8], kept: Kept) -> u8
     requires { ⌜ HeldIn (now value) 4 kept ⌝ }
     ensures { λ r. ⌜ r ≡ Option·getD (keptSub (now (value .entry)) kept) 0 ⌝ }
 {
-    if kept.there {
-        let place = kept.place;
-        return value[place.start + 3];
+    if 0 < kept.start {
+        return value[kept.start + 3];
     }
     0
 }
@@ -126,9 +123,9 @@ fn record_of(value: &[u8], parts: Parts) -> SuaAddress
     let title = parts.title;
     let code = parts.code;
     let sub = parts.ssn;
-    let has_title = title.there;
-    let has_point_code = code.there;
-    let has_ssn = sub.there;
+    let has_title = 0 < title.start;
+    let has_point_code = 0 < code.start;
+    let has_ssn = 0 < sub.start;
     let include_gt = bits / 4 % 2 == 1;
     let include_pc = bits / 2 % 2 == 1;
     let include_ssn = bits % 2 == 1;

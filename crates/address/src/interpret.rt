@@ -3,11 +3,11 @@ use crate::Routing;
 use crate::RoutingIndicator;
 use crate::parts::Kept;
 use crate::parts::Parts;
+use crate::parts::Short;
 use crate::parts::Surveyed;
 use crate::parts::survey;
 use bcd::error::Counted;
 use bcd::error::Refusal;
-use parameter::Place;
 use parameter::be16;
 use parameter::tags;
 ghost use mathlib.Core.Path.{_≡_};
@@ -20,7 +20,7 @@ ghost use Rattle.parameter.specs.Parameter.{runLength};
 ghost use Rattle.address.specs.Address.{titleAt, title, code, present, subParam};
 ghost use Rattle.address.specs.Parts.{surveyedOf, interpreted};
 ghost use Rattle.address.specs.Steps.Kept.{shortNumbers, keptTitle};
-ghost use Rattle.address.specs.Steps.Plan.{HeldIn, Read, WrittenAs, PlanOf};
+ghost use Rattle.address.specs.Steps.Plan.{HeldIn, Read, digitsBy, WrittenAs, PlanOf};
 
 // The parts of an address value, and how many octets it is written as; or why it is refused.
 pub(crate) enum Planned {
@@ -29,11 +29,11 @@ pub(crate) enum Planned {
 }
 
 // Why a sub-parameter is too short: a title has eight octets, a point code and an SSN four.
-fn too_short(place: Place) -> Refusal
-    ensures { λ r. ⌜ numbered r ≡ shortNumbers place ⌝ }
+fn too_short(short: Short) -> Refusal
+    ensures { λ r. ⌜ numbered r ≡ shortNumbers short ⌝ }
 {
-    let tag = place.tag;
-    let length = place.length;
+    let tag = short.tag;
+    let length = short.length;
     if tag == tags::GLOBAL_TITLE {
         return Refusal::TooShort {
             expected: 8,
@@ -47,33 +47,37 @@ fn too_short(place: Place) -> Refusal
     }
 }
 
-// What a title, given by its value, takes on the wire. 9.
-fn measure_title(value: &[u8]) -> Counted
+// What a title, given by its value, takes on the wire. 9, if the digits are checked.
+fn measure_title(checked: bool, value: &[u8]) -> Counted
     requires { ⌜ 8 ≤ length (now value) ⌝ }
     requires { ⌜ length (now value) ≤ most ⌝ }
     ensures { λ r. ⌜
         countedOf r
-        ≡ mapped runLength (subParam builtIn (title (titleAt builtIn (now (value .entry))))) ⌝ }
+        ≡ mapped runLength (subParam (digitsBy checked) (title (titleAt builtIn (now (value .entry))))) ⌝ }
 {
-    match bcd::rewrite::rewritten_digits_length(&value[8..], value[4]) {
-        Counted::Count(n) => Counted::Count((n + 15) / 4 * 4),
-        Counted::Refused(r) => Counted::Refused(r),
+    if checked {
+        return match bcd::rewrite::rewritten_digits_length(&value[8..], value[4]) {
+            Counted::Count(n) => Counted::Count((n + 15) / 4 * 4),
+            Counted::Refused(r) => Counted::Refused(r),
+        };
     }
+    let count = value[4] as usize;
+    let digits = bcd::smaller(count, 2 * (value.len() - 8));
+    Counted::Count(((digits + 1) / 2 + 15) / 4 * 4)
 }
 
-// What the title takes on the wire, if there is one. 9.
-fn title_length(value: &[u8], kept: Kept) -> Counted
+// What the title takes on the wire, if there is one. 9, if the digits are checked.
+fn title_length(checked: bool, value: &[u8], kept: Kept) -> Counted
     requires { ⌜ HeldIn (now value) 8 kept ⌝ }
     requires { ⌜ length (now value) ≤ most ⌝ }
     ensures { λ r. ⌜
         countedOf r
-        ≡ mapped runLength (each (subParam builtIn) (present title (keptTitle builtIn (now (value .entry)) kept))) ⌝ }
+        ≡ mapped runLength (each (subParam (digitsBy checked)) (present title (keptTitle builtIn (now (value .entry)) kept))) ⌝ }
 {
-    if kept.there {
-        let place = kept.place;
-        let start = place.start;
-        let end = start + place.length;
-        return measure_title(&value[start..end]);
+    if 0 < kept.start {
+        let start = kept.start;
+        let end = start + kept.length;
+        return measure_title(checked, &value[start..end]);
     }
     Counted::Count(0)
 }
@@ -85,21 +89,21 @@ pub(crate) fn four_length(there: bool) -> usize
     if there { 8 } else { 0 }
 }
 
-// The length of what is written, of an address value that was read. 9, then 10.
-fn measure(tag: u16, value: &[u8], parts: Parts) -> Planned
+// The length of what is written, of an address value that was read. 9, if the digits are checked; then 10.
+fn measure(checked: bool, tag: u16, value: &[u8], parts: Parts) -> Planned
     requires { ⌜ Read (now value) parts ⌝ }
-    ensures { λ r. ⌜ WrittenAs tag (now (value .entry)) r ⌝ }
+    ensures { λ r. ⌜ WrittenAs (digitsBy checked) tag (now (value .entry)) r ⌝ }
 {
     let kept = parts.title;
-    match title_length(value, kept) {
+    match title_length(checked, value, kept) {
         Counted::Refused(r) => Planned::Refused(r),
         Counted::Count(n) => {
             let code = parts.code;
             let ssn = parts.ssn;
             let length = 4
                 + n
-                + four_length(code.there)
-                + four_length(ssn.there)
+                + four_length(0 < code.start)
+                + four_length(0 < ssn.start)
                 + parts.other_length;
             if 65531 < length {
                 return Planned::Refused(Refusal::ValueTooLong { tag, length });
@@ -131,9 +135,8 @@ fn read(value: &[u8]) -> Surveyed
         Surveyed::Refused(r) => Surveyed::Refused(r),
         Surveyed::Parts(parts) => {
             let short = parts.short;
-            if short.there {
-                let place = short.place;
-                return Surveyed::Refused(too_short(place));
+            if 0 < short.tag {
+                return Surveyed::Refused(too_short(short));
             }
             Surveyed::Parts(parts)
         }
@@ -141,15 +144,16 @@ fn read(value: &[u8]) -> Surveyed
 }
 
 // The parts of an address value and, if it is to be written, how many octets it is then. Reading's refusals; then, to be
-// written, 9, then 10. Only this function calls `read`, so that its code stands here and no parts are handed over.
-pub(crate) fn plan(written: bool, tag: u16, value: &[u8]) -> Planned
-    ensures { λ r. ⌜ PlanOf written tag (now (value .entry)) r ⌝ }
+// written, 9, if the digits are checked, then 10. Only this function calls `read`, so that its code stands here and no parts
+// are handed over.
+pub(crate) fn plan(written: bool, checked: bool, tag: u16, value: &[u8]) -> Planned
+    ensures { λ r. ⌜ PlanOf written checked tag (now (value .entry)) r ⌝ }
 {
     match read(value) {
         Surveyed::Refused(r) => Planned::Refused(r),
         Surveyed::Parts(parts) => {
             if written {
-                return measure(tag, value, parts);
+                return measure(checked, tag, value, parts);
             }
             Planned::Plan(parts, 0)
         }
@@ -160,7 +164,7 @@ pub(crate) fn plan(written: bool, tag: u16, value: &[u8]) -> Planned
 pub fn interpret(value: &[u8]) -> Surveyed
     ensures { λ r. ⌜ surveyedOf r ≡ interpreted (now (value .entry)) ⌝ }
 {
-    match plan(false, 0, value) {
+    match plan(false, false, 0, value) {
         Planned::Refused(r) => Surveyed::Refused(r),
         Planned::Plan(parts, _) => Surveyed::Parts(parts),
     }

@@ -11,16 +11,23 @@ ghost use Rattle.bcd.specs.Outcome.{mapped, bounded};
 ghost use Rattle.parameter.specs.Walk.{places};
 ghost use Rattle.address.specs.Parts.{nothing, keptPlace, sooner, noted, noteAll, surveyedOf};
 
-// A sub-parameter that the walk keeps, if there is one.
+// Where the value of a sub-parameter that the walk keeps starts, and how long it is. There is none where the start is 0, since
+// four octets stand before the first sub-parameter.
 pub struct Kept {
-    pub place: Place,
-    pub there: bool,
+    pub start: usize,
+    pub length: usize,
+}
+
+// The tag of a sub-parameter that is too short, and how long its value is. There is none where the tag is 0.
+pub struct Short {
+    pub tag: u16,
+    pub length: usize,
 }
 
 // The first sub-parameter that is too short for its tag; the last title, point code and SSN; and of the others, how many
 // there are and what they take on the wire.
 pub struct Parts {
-    pub short: Kept,
+    pub short: Short,
     pub title: Kept,
     pub code: Kept,
     pub ssn: Kept,
@@ -38,20 +45,26 @@ pub enum Surveyed {
 fn keep(place: Place) -> Kept
     ensures { λ r. ⌜ r ≡ keptPlace place ⌝ }
 {
-    Kept { there: true, place }
+    Kept {
+        start: place.start,
+        length: place.length,
+    }
 }
 
 // The first of two sub-parameters that is too short: the one kept, or this one if its value has under `least` octets.
-fn first_short(kept: Kept, place: Place, least: usize) -> Kept
-    ensures { λ r. ⌜ r ≡ sooner kept place least ⌝ }
+fn first_short(short: Short, place: Place, least: usize) -> Short
+    ensures { λ r. ⌜ r ≡ sooner short place least ⌝ }
 {
-    if kept.there {
-        return kept;
+    if 0 < short.tag {
+        return short;
     }
     if place.length < least {
-        return keep(place);
+        return Short {
+            tag: place.tag,
+            length: place.length,
+        };
     }
-    kept
+    short
 }
 
 impl Parts {
@@ -60,15 +73,11 @@ impl Parts {
         ensures { λ r. ⌜ r ≡ nothing ⌝ }
     {
         let kept = Kept {
-            there: false,
-            place: Place {
-                tag: 0,
-                start: 0,
-                length: 0,
-            },
+            start: 0,
+            length: 0,
         };
         Parts {
-            short: kept,
+            short: Short { tag: 0, length: 0 },
             title: kept,
             code: kept,
             ssn: kept,

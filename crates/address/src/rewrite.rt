@@ -21,8 +21,9 @@ ghost use Rattle.parameter.specs.Parameter.{runOctets, runLength, mostValue};
 ghost use Rattle.parameter.specs.Walk.{valued};
 ghost use Rattle.address.specs.Address.{titleAt, title, code, sub, present, subParam, readAddress, writeAddress};
 ghost use Rattle.address.specs.Steps.Kept.{keptTitle, keptCode, keptSub};
+ghost use Rattle.address.specs.Again.{withUnknown};
 ghost use Rattle.address.specs.Listing.{isOther, otherPlaces};
-ghost use Rattle.address.specs.Steps.Plan.{HeldIn, Ready, Walked, Plan, headOctets, othersOctets};
+ghost use Rattle.address.specs.Steps.Plan.{HeldIn, Ready, Walked, digitsBy, Plan, headOctets, othersOctets};
 
 // How many octets an address value has when it is read and written again. Reading's refusals, then 9, then 10.
 pub fn rewritten_length(tag: u16, value: &[u8]) -> Counted
@@ -30,7 +31,7 @@ pub fn rewritten_length(tag: u16, value: &[u8]) -> Counted
         countedOf r
         ≡ mapped length (after (readAddress builtIn (now (value .entry))) (writeAddress builtIn tag)) ⌝ }
 {
-    match plan(true, tag, value) {
+    match plan(true, true, tag, value) {
         Planned::Refused(r) => Counted::Refused(r),
         Planned::Plan(_, length) => Counted::Count(length),
     }
@@ -58,10 +59,10 @@ fn clear_high(out: &mut [u8], i: usize)
 // the digits that are there, and an odd last high half.
 fn put_title(value: &[u8], out: &mut [u8]) -> usize
     requires { ⌜ 8 ≤ length (now value) ⌝ }
-    requires { ⌜ Ready (subParam builtIn (title (titleAt builtIn (now value)))) (now out) ⌝ }
+    requires { ⌜ Ready (subParam withUnknown (title (titleAt builtIn (now value)))) (now out) ⌝ }
     ensures { λ r. ⌜
         delivered (accepted r) (now (out .exit))
-        ≡ deliver (mapped runOctets (subParam builtIn (title (titleAt builtIn (now (value .entry)))))) (now (out .entry)) ⌝ }
+        ≡ deliver (mapped runOctets (subParam withUnknown (title (titleAt builtIn (now (value .entry)))))) (now (out .entry)) ⌝ }
 {
     let count = value[4] as usize;
     let digits = bcd::smaller(count, 2 * (value.len() - 8));
@@ -81,17 +82,16 @@ fn put_title(value: &[u8], out: &mut [u8]) -> usize
 // Writes the title, if there is one.
 fn write_title(value: &[u8], kept: Kept, out: &mut [u8]) -> usize
     requires { ⌜ HeldIn (now value) 8 kept ⌝ }
-    requires { ⌜ Ready (each (subParam builtIn) (present title (keptTitle builtIn (now value) kept))) (now out) ⌝ }
+    requires { ⌜ Ready (each (subParam withUnknown) (present title (keptTitle builtIn (now value) kept))) (now out) ⌝ }
     ensures { λ r. ⌜
         delivered (accepted r) (now (out .exit))
         ≡ deliver
-        (mapped runOctets (each (subParam builtIn) (present title (keptTitle builtIn (now (value .entry)) kept))))
+        (mapped runOctets (each (subParam withUnknown) (present title (keptTitle builtIn (now (value .entry)) kept))))
         (now (out .entry)) ⌝ }
 {
-    if kept.there {
-        let place = kept.place;
-        let start = place.start;
-        let end = start + place.length;
+    if 0 < kept.start {
+        let start = kept.start;
+        let end = start + kept.length;
         return put_title(&value[start..end], out);
     }
     0
@@ -100,16 +100,15 @@ fn write_title(value: &[u8], kept: Kept, out: &mut [u8]) -> usize
 // Writes the point code, if there is one.
 fn write_code(value: &[u8], kept: Kept, out: &mut [u8]) -> usize
     requires { ⌜ HeldIn (now value) 4 kept ⌝ }
-    requires { ⌜ Ready (each (subParam builtIn) (present code (keptCode (now value) kept))) (now out) ⌝ }
+    requires { ⌜ Ready (each (subParam withUnknown) (present code (keptCode (now value) kept))) (now out) ⌝ }
     ensures { λ r. ⌜
         delivered (accepted r) (now (out .exit))
         ≡ deliver
-        (mapped runOctets (each (subParam builtIn) (present code (keptCode (now (value .entry)) kept))))
+        (mapped runOctets (each (subParam withUnknown) (present code (keptCode (now (value .entry)) kept))))
         (now (out .entry)) ⌝ }
 {
-    if kept.there {
-        let place = kept.place;
-        let start = place.start;
+    if 0 < kept.start {
+        let start = kept.start;
         let end = start + 4;
         parameter::encode(tags::POINT_CODE, &value[start..end], out);
         return 8;
@@ -120,16 +119,15 @@ fn write_code(value: &[u8], kept: Kept, out: &mut [u8]) -> usize
 // Writes the SSN, if there is one: three reserved octets, and the fourth.
 fn write_ssn(value: &[u8], kept: Kept, out: &mut [u8]) -> usize
     requires { ⌜ HeldIn (now value) 4 kept ⌝ }
-    requires { ⌜ Ready (each (subParam builtIn) (present sub (keptSub (now value) kept))) (now out) ⌝ }
+    requires { ⌜ Ready (each (subParam withUnknown) (present sub (keptSub (now value) kept))) (now out) ⌝ }
     ensures { λ r. ⌜
         delivered (accepted r) (now (out .exit))
         ≡ deliver
-        (mapped runOctets (each (subParam builtIn) (present sub (keptSub (now (value .entry)) kept))))
+        (mapped runOctets (each (subParam withUnknown) (present sub (keptSub (now (value .entry)) kept))))
         (now (out .entry)) ⌝ }
 {
-    if kept.there {
-        let place = kept.place;
-        let start = place.start;
+    if 0 < kept.start {
+        let start = kept.start;
         let end = start + 4;
         parameter::encode(tags::SUBSYSTEM_NUMBER, &value[start..end], out);
         clear_reserved(out);
@@ -216,11 +214,11 @@ fn write_head(value: &[u8], out: &mut [u8])
 
 // Writes an address value that was planned.
 fn write(value: &[u8], parts: Parts, total: usize, out: &mut [u8])
-    requires { ⌜ Plan (now value) parts total ⌝ }
+    requires { ⌜ Plan withUnknown (now value) parts total ⌝ }
     requires { ⌜ total ≤ length (now out) ⌝ }
     ensures { λ _. ⌜
         delivered (accepted total) (now (out .exit))
-        ≡ deliver (after (readAddress builtIn (now (value .entry))) (writeAddress builtIn 0)) (now (out .entry)) ⌝ }
+        ≡ deliver (after (readAddress builtIn (now (value .entry))) (writeAddress withUnknown 0)) (now (out .entry)) ⌝ }
 {
     let kept = parts.title;
     let code = parts.code;
@@ -229,16 +227,18 @@ fn write(value: &[u8], parts: Parts, total: usize, out: &mut [u8])
     let a = 4 + write_title(value, kept, &mut out[4..]);
     let b = a + write_code(value, code, &mut out[a..]);
     let c = b + write_ssn(value, ssn, &mut out[b..]);
-    write_others(value, parts, &mut out[c..]);
+    if 0 < parts.other_count {
+        write_others(value, parts, &mut out[c..]);
+    }
 }
 
-// Reads an address value and writes it again. Reading's refusals, then 9, then 10, then 14.
-pub fn rewrite(tag: u16, value: &[u8], out: &mut [u8]) -> Counted
+// Reads an address value and writes it again. Reading's refusals; 9, if the digits are checked; then 10, then 14.
+fn rewrite_by(checked: bool, tag: u16, value: &[u8], out: &mut [u8]) -> Counted
     ensures { λ r. ⌜
         delivered (countedOf r) (now (out .exit))
-        ≡ deliver (after (readAddress builtIn (now (value .entry))) (writeAddress builtIn tag)) (now (out .entry)) ⌝ }
+        ≡ deliver (after (readAddress builtIn (now (value .entry))) (writeAddress (digitsBy checked) tag)) (now (out .entry)) ⌝ }
 {
-    match plan(true, tag, value) {
+    match plan(true, checked, tag, value) {
         Planned::Refused(r) => Counted::Refused(r),
         Planned::Plan(parts, total) => {
             if out.len() < total {
@@ -248,4 +248,23 @@ pub fn rewrite(tag: u16, value: &[u8], out: &mut [u8]) -> Counted
             Counted::Count(total)
         }
     }
+}
+
+// Reads an address value and writes it again. Reading's refusals, then 9, then 10, then 14.
+pub fn rewrite(tag: u16, value: &[u8], out: &mut [u8]) -> Counted
+    ensures { λ r. ⌜
+        delivered (countedOf r) (now (out .exit))
+        ≡ deliver (after (readAddress builtIn (now (value .entry))) (writeAddress builtIn tag)) (now (out .entry)) ⌝ }
+{
+    rewrite_by(true, tag, value, out)
+}
+
+// The same for digits that are not to be checked again: a `?` is written as it was read, and not refused as 9. Reading's
+// refusals, then 10, then 14.
+pub fn rewrite_as_read(tag: u16, value: &[u8], out: &mut [u8]) -> Counted
+    ensures { λ r. ⌜
+        delivered (countedOf r) (now (out .exit))
+        ≡ deliver (after (readAddress builtIn (now (value .entry))) (writeAddress withUnknown tag)) (now (out .entry)) ⌝ }
+{
+    rewrite_by(false, tag, value, out)
 }

@@ -13,7 +13,8 @@ use Rattle.parameter.specs.declared.Place.{Place}
 use Rattle.parameter.specs.Parameter.{two, four, twoAt}
 use Rattle.parameter.specs.Walk.{valued, places}
 use Rattle.address.specs.Address.{addressIn, readAddress, addressWith}
-use Rattle.address.specs.Steps.Kept.{keptTitle, keptCode, keptSub}
+use Rattle.address.specs.Steps.Kept.{keptValue, keptTitle, keptCode, keptSub}
+use Rattle.address.specs.Parts.{isKept}
 use Rattle.address.specs.Listing.{otherPlaces}
 use Rattle.address.specs.Steps.Plan.{HeldIn, Read, placesIn}
 use Rattle.address.specs.declared.parts.Kept.{Kept}
@@ -28,35 +29,35 @@ use Rattle.entry.specs.Account.{placeOctets, marked, titleFields, addres
 use Rattle.message.specs.Accessors.{moved}
 use Rattle.entry.specs.Steps.Emitting.{emit, Emitted, Tried, othersFields, partsFields, Further}
 use Rattle.entry.proofs.Emission.{emitted-more}
-use Rattle.address.proofs.Keeping.{value-at}
+use Rattle.address.proofs.Keeping.{value-at, places-behind, placeOf}
 use Rattle.address.proofs.Others.{count-known, walk-few}
 use Rattle.entry.proofs.OtherPlaces.{listed, listed-length}
 
 -- what the parts of an address take
 pub title-small : (v : List ℕ) (k : Kept) → Octets v → HeldIn v 8 k → length (marked titleFields (keptTitle builtIn v k)) ≤ 262
-title-small v k o h = go (k .there) refl
+title-small v k o h = go (isKept k) refl
   where
-    go : (t : Bool) → k .there ≡ t → length (marked titleFields (keptTitle builtIn v k)) ≤ 262
+    go : (t : Bool) → isKept k ≡ t → length (marked titleFields (keptTitle builtIn v k)) ≤ 262
     go true t =
-        let w = valued v (k .place) .value in
+        let w = keptValue v k in
         let l = digits-length builtIn (drop 8 w) (getD w 4 0) in
-        let b = octets-at v (k .place .start + 4) o in
-        let e = value-at v (k .place) 4 (omega (arith, h t .1)) in
+        let b = octets-at v (k .start + 4) o in
+        let e = value-at v (placeOf k) 4 (omega (arith, h t .1)) in
         let few : length (digitsIn builtIn (drop 8 w) (getD w 4 0)) ≤ 255 = omega arith in
         rw t (omega arith)
     go false t = rw t (omega arith)
 
 pub code-small : (v : List ℕ) (k : Kept) → length (marked four (keptCode v k)) ≤ 5
-code-small v k = go (k .there) refl
+code-small v k = go (isKept k) refl
   where
-    go : (t : Bool) → k .there ≡ t → length (marked four (keptCode v k)) ≤ 5
+    go : (t : Bool) → isKept k ≡ t → length (marked four (keptCode v k)) ≤ 5
     go true t = rw t (omega arith)
     go false t = rw t (omega arith)
 
 pub sub-small : (v : List ℕ) (k : Kept) → length (marked (λ (n : ℕ). n ∷ []) (keptSub v k)) ≤ 2
-sub-small v k = go (k .there) refl
+sub-small v k = go (isKept k) refl
   where
-    go : (t : Bool) → k .there ≡ t → length (marked (λ (n : ℕ). n ∷ []) (keptSub v k)) ≤ 2
+    go : (t : Bool) → isKept k ≡ t → length (marked (λ (n : ℕ). n ∷ []) (keptSub v k)) ≤ 2
     go true t = rw t (omega arith)
     go false t = rw t (omega arith)
 
@@ -101,10 +102,11 @@ pub account-read : (base : ℕ) {v : List ℕ} {s : Parts} (r : Read v s) → ad
 unfolding addressAccount addressFields partsFields readAddress addressWith
 account-read base {v} {s} r =
     let ps = r .known .places in
+    let behind = places-behind v ps (r .known .walked) in
     let read : addressIn builtIn v ≡ accepted (addressWith (twoAt v 0) (getD v 3 0) (map (pieceAt builtIn v) ps)) =
     sym (bounded-within v (addressIn builtIn v) (r .known .within)) ∙ read-whole r in
     let count : length (map (moved base) (otherPlaces ps)) ≡ s .«other_count» = length-map (otherPlaces ps) (moved base) ∙ sym (count-known (r .known)) in
-    rw (read, r .known .walked, indicator-bits (twoAt v 0) (getD v 3 0) (map (pieceAt builtIn v) ps), title-holds builtIn v ps, code-holds builtIn v ps, sub-holds builtIn v ps, count, ← r .known .parts)
+    rw (read, r .known .walked, indicator-bits (twoAt v 0) (getD v 3 0) (map (pieceAt builtIn v) ps), title-holds builtIn v ps behind, code-holds builtIn v ps behind, sub-holds builtIn v ps behind, count, ← r .known .parts)
 
 pub account-refused :
     (base : ℕ) (v : List ℕ) (n : ℕ) (vs : List ℕ) → length v ≤ most → readAddress builtIn v ≡ refused n vs → addressAccount builtIn base v ≡ refused n vs

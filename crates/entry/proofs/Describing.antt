@@ -15,10 +15,11 @@ use Rattle.parameter.specs.Parameter.{four, fourIn, twoAt}
 use Rattle.parameter.specs.Walk.{valued}
 use Rattle.parameter.proofs.Running.{part-of}
 use Rattle.address.specs.Address.{titleAt}
-use Rattle.address.specs.Steps.Kept.{keptTitle, keptCode, keptSub}
+use Rattle.address.specs.Parts.{isKept}
+use Rattle.address.specs.Steps.Kept.{keptValue, keptTitle, keptCode, keptSub}
 use Rattle.address.specs.Listing.{isOther, otherPlaces}
 use Rattle.address.specs.declared.parts.Kept.{Kept}
-use Rattle.address.proofs.Keeping.{value-at}
+use Rattle.address.proofs.Keeping.{value-at, placeOf}
 use Rattle.entry.specs.Account.{placeOctets, placesOctets, marked, titleFields}
 use Rattle.message.specs.Accessors.{moved}
 use Rattle.entry.specs.Steps.Emitting.{Emitted}
@@ -79,24 +80,24 @@ lentPart v p = take (p .start + p .length - p .start) (drop (p .start) v)
 
 -- a part that is kept, or none
 module _ (v : List ℕ) (k : Kept) {d last : List ℕ} {at end : ℕ} where
-  pub title-there : k .there ≡ true → Emitted d at (1 ∷ titleFields (titleAt builtIn (lentPart v (k .place)))) end last → Emitted d at (marked titleFields (keptTitle builtIn v k)) end last
+  pub title-there : isKept k ≡ true → Emitted d at (1 ∷ titleFields (titleAt builtIn (lentPart v (placeOf k)))) end last → Emitted d at (marked titleFields (keptTitle builtIn v k)) end last
   title-there t x =
-      let e = part-of (k .place .start) (k .place .length) v in
+      let e = part-of (k .start) (k .length) v in
       rw t (subst (λ (w : List ℕ). Emitted d at (1 ∷ titleFields (titleAt builtIn w)) end last) e x)
 
-  pub title-none : k .there ≡ false → Emitted d at (0 ∷ []) end last → Emitted d at (marked titleFields (keptTitle builtIn v k)) end last
+  pub title-none : isKept k ≡ false → Emitted d at (0 ∷ []) end last → Emitted d at (marked titleFields (keptTitle builtIn v k)) end last
   title-none t x = rw t x
 
-  pub code-there : (n : ℕ) → k .there ≡ true → n ≡ fourIn (valued v (k .place) .value) → Emitted d at (1 ∷ four n) end last → Emitted d at (marked four (keptCode v k)) end last
+  pub code-there : (n : ℕ) → isKept k ≡ true → n ≡ fourIn (keptValue v k) → Emitted d at (1 ∷ four n) end last → Emitted d at (marked four (keptCode v k)) end last
   code-there n t e x = rw t (subst (λ (m : ℕ). Emitted d at (1 ∷ four m) end last) e x)
 
-  pub code-none : k .there ≡ false → Emitted d at (0 ∷ []) end last → Emitted d at (marked four (keptCode v k)) end last
+  pub code-none : isKept k ≡ false → Emitted d at (0 ∷ []) end last → Emitted d at (marked four (keptCode v k)) end last
   code-none t x = rw t x
 
-  pub sub-there : (n : ℕ) → k .there ≡ true → n ≡ getD (valued v (k .place) .value) 3 0 → Emitted d at (1 ∷ n ∷ []) end last → Emitted d at (marked (λ (n : ℕ). n ∷ []) (keptSub v k)) end last
+  pub sub-there : (n : ℕ) → isKept k ≡ true → n ≡ getD (keptValue v k) 3 0 → Emitted d at (1 ∷ n ∷ []) end last → Emitted d at (marked (λ (n : ℕ). n ∷ []) (keptSub v k)) end last
   sub-there n t e x = rw t (subst (λ (m : ℕ). Emitted d at (1 ∷ m ∷ []) end last) e x)
 
-  pub sub-none : k .there ≡ false → Emitted d at (0 ∷ []) end last → Emitted d at (marked (λ (n : ℕ). n ∷ []) (keptSub v k)) end last
+  pub sub-none : isKept k ≡ false → Emitted d at (0 ∷ []) end last → Emitted d at (marked (λ (n : ℕ). n ∷ []) (keptSub v k)) end last
   sub-none t x = rw t x
 
 pub four-value :

@@ -41,6 +41,15 @@ pub emitted-past : (d : List ℕ) (at v : ℕ) → length d ≤ at → Emitted d
 unfolding emit
 emitted-past d at v h = record { behind = refl; held = rw (le-ltb at (length d) h) }
 
+-- octets that the slice has no place for
+emit-past : (d : List ℕ) (at : ℕ) (os : List ℕ) → length d ≤ at → emit d at os ≡ d
+unfolding emit
+emit-past d at [] h = refl
+emit-past d at (v ∷ os) h = rw (le-ltb at (length d) h) (emit-past d (at + 1) os (omega arith))
+
+pub emitted-beyond : {end : ℕ} (d : List ℕ) (at : ℕ) (os : List ℕ) → length d ≤ at → end ≡ at + length os → Emitted d at os end d
+emitted-beyond d at os h e = record { behind = e; held = sym (emit-past d at os h) }
+
 -- nothing
 pub emitted-none : (d : List ℕ) (at : ℕ) → Emitted d at [] at d
 unfolding emit

@@ -1,5 +1,5 @@
 // A flat account of a message with its addresses. The same walk measures and writes: octets that the slice has no place
-// for are counted and not stored.
+// for are counted and not stored, and those of a place or a title are not even made where it has none for the first.
 use crate::be32;
 use address::interpret::interpret;
 use address::parts::Kept;
@@ -71,6 +71,9 @@ fn put_place(place: Place, at: usize, out: &mut [u8]) -> usize
     requires { ⌜ at ≤ 2 ^ 58 ⌝ }
     ensures { λ r. ⌜ Emitted (now (out .entry)) at (placeOctets place) r (now (out .exit)) ⌝ }
 {
+    if out.len() <= at {
+        return at + 10;
+    }
     let tag = place.tag;
     let a = put((tag / 256) as u8, at, out);
     let b = put((tag % 256) as u8, a, out);
@@ -101,6 +104,10 @@ fn put_title(value: &[u8], at: usize, out: &mut [u8]) -> usize
     requires { ⌜ at ≤ 2 ^ 58 ⌝ }
     ensures { λ r. ⌜ Emitted (now (out .entry)) at (1 ∷ titleFields (titleAt builtIn (now (value .entry)))) r (now (out .exit)) ⌝ }
 {
+    if out.len() <= at {
+        let count = value[4] as usize;
+        return at + 6 + bcd::smaller(count, 2 * (value.len() - 8));
+    }
     let a = put(1, at, out);
     let b = put(value[3], a, out);
     let c = put(value[5], b, out);
@@ -126,10 +133,9 @@ fn title(value: &[u8], kept: Kept, at: usize, out: &mut [u8]) -> usize
     ensures { λ r. ⌜
         Emitted (now (out .entry)) at (marked titleFields (keptTitle builtIn (now (value .entry)) kept)) r (now (out .exit)) ⌝ }
 {
-    if kept.there {
-        let place = kept.place;
-        let start = place.start;
-        let end = start + place.length;
+    if 0 < kept.start {
+        let start = kept.start;
+        let end = start + kept.length;
         return put_title(&value[start..end], at, out);
     }
     put(0, at, out)
@@ -141,9 +147,8 @@ fn code(value: &[u8], kept: Kept, at: usize, out: &mut [u8]) -> usize
     requires { ⌜ at ≤ 2 ^ 57 ⌝ }
     ensures { λ r. ⌜ Emitted (now (out .entry)) at (marked four (keptCode (now (value .entry)) kept)) r (now (out .exit)) ⌝ }
 {
-    if kept.there {
-        let place = kept.place;
-        let start = place.start;
+    if 0 < kept.start {
+        let start = kept.start;
         let a = put(1, at, out);
         let high = be16(value[start], value[start + 1]);
         let low = be16(value[start + 2], value[start + 3]);
@@ -158,9 +163,8 @@ fn ssn(value: &[u8], kept: Kept, at: usize, out: &mut [u8]) -> usize
     requires { ⌜ at ≤ 2 ^ 57 ⌝ }
     ensures { λ r. ⌜ Emitted (now (out .entry)) at (marked (λ (n : ℕ). n ∷ []) (keptSub (now (value .entry)) kept)) r (now (out .exit)) ⌝ }
 {
-    if kept.there {
-        let place = kept.place;
-        let start = place.start;
+    if 0 < kept.start {
+        let start = kept.start;
         let a = put(1, at, out);
         return put(value[start + 3], a, out);
     }

@@ -15,6 +15,8 @@ use Rattle.parameter.proofs.RoundTrip.{octets-length}
 use Rattle.parameter.proofs.Encoding.{encode-within}
 use Rattle.parameter.proofs.InPlace.{framed-there}
 use Rattle.address.specs.Address.{readAddress, writeAddress, rewriteAddress}
+use Rattle.address.specs.Again.{withUnknown}
+use Rattle.address.proofs.Unknown.{rewritten-same}
 use Rattle.form.specs.Form.{isAddress, settledParam}
 use Rattle.form.specs.Steps.Passes.{Placeable}
 use Rattle.form.proofs.Passes.{settled-address, settled-raw, one-length, one-octets, rewrite-read, rewrite-small}
@@ -72,12 +74,12 @@ pub rewritten-there :
     → length v ≤ mostValue
     → rewriteAddress builtIn tag v ≡ accepted w
     → paddedLength (length w) ≤ length out
-    → record { answer = a; buffer = last } ≡ deliver (after (readAddress builtIn v) (writeAddress builtIn tag)) (midOf 4 (length out - 4) out)
+    → record { answer = a; buffer = last } ≡ deliver (after (readAddress builtIn v) (writeAddress withUnknown tag)) (midOf 4 (length out - 4) out)
     → (a ≡ accepted (length w)) × (last ≡ w ++ drop (length w) (midOf 4 (length out - 4) out))
 rewritten-there tag v w out last a h hw room k =
     let lent : length (midOf 4 (length out - 4) out) ≡ length out - 4 = rw (length-take (length out - 4) (drop 4 out), length-drop 4 out) (omega arith) in
     let fits : length w ≤ length (midOf 4 (length out - 4) out) = omega arith in
-    let k′ = k ∙ ap (λ o. deliver o (midOf 4 (length out - 4) out)) (rewrite-read tag v h ∙ hw) in
+    let k′ = k ∙ ap (λ o. deliver o (midOf 4 (length out - 4) out)) (rewritten-same tag v w (rewrite-read tag v h ∙ hw)) in
     (deliver-answer w (midOf 4 (length out - 4) out) fits k′, deliver-buffer w (midOf 4 (length out - 4) out) fits k′)
 
 -- the same, where the length came back as n

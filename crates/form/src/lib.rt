@@ -117,7 +117,7 @@ fn put_settled(tag: u16, value: &[u8], out: &mut [u8]) -> usize
         ≡ deliver (mapped runOctets (settledParam builtIn (param tag (now (value .entry))))) (now (out .entry)) ⌝ }
 {
     if is_address(tag) {
-        let Counted::Count(n) = address::rewrite::rewrite(tag, value, &mut out[4..]) else {
+        let Counted::Count(n) = address::rewrite::rewrite_as_read(tag, value, &mut out[4..]) else {
             return 0;
         };
         parameter::frame(tag, n, out);

@@ -150,15 +150,23 @@ pub fn as_u32(value: &[u8]) -> Number
     Number::Value(high * 65536 + low)
 }
 
-// Clears a slice.
+// Clears a slice of at most three octets, which padding is. No loop: it would be compiled to a call.
 fn clear(out: &mut [u8])
+    requires { ⌜ length (now out) ≤ 3 ⌝ }
     ensures { λ _. ⌜ now (out .exit) ≡ replicate (length (now (out .entry))) 0 ⌝ }
 {
-    let mut i = 0;
-    while i < out.len() {
-        out[i] = 0;
-        i += 1;
+    if out.len() < 1 {
+        return;
     }
+    out[0] = 0;
+    if out.len() < 2 {
+        return;
+    }
+    out[1] = 0;
+    if out.len() < 3 {
+        return;
+    }
+    out[2] = 0;
 }
 
 // Stores a 16-bit number, the high octet first, at the front of a slice.

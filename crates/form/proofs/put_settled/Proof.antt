@@ -32,7 +32,7 @@ sized c =
     let t = r .before .before in
     let s = start t in
     let w = known t in
-    let there = rewritten-there (s .args .tag) (s .args .value .now) (w .0) (s .args .out .now) _ _ (s .pre .0) (w .1) (w .2) (r .rewrite .ensures) in
+    let there = rewritten-there (s .args .tag) (s .args .value .now) (w .0) (s .args .out .now) _ _ (s .pre .0) (w .1) (w .2) (r .rewrite-as-read .ensures) in
     sym (accepted-inj (sym (ap countedOf (c .before .n .given .1)) ∙ there .0))
 
 small : (c : tie.After-known-told) → c .before .n .given .0 .0 ≤ mostValue
@@ -45,17 +45,17 @@ small c =
 is-address-requires : tie.Need-is-address-requires
 is-address-requires c κs = search needs
 
-sub-rewrite : tie.Need-sub-rewrite
-sub-rewrite c = let w = known c in omega (arith, w .2)
+sub-rewrite-as-read : tie.Need-sub-rewrite-as-read
+sub-rewrite-as-read c = let w = known c in omega (arith, w .2)
 
-part-rewrite-start : tie.Need-part-rewrite-start
-part-rewrite-start c = let w = known c in omega (arith, w .2)
+part-rewrite-as-read-start : tie.Need-part-rewrite-as-read-start
+part-rewrite-as-read-start c = let w = known c in omega (arith, w .2)
 
-part-rewrite-end : tie.Need-part-rewrite-end
-part-rewrite-end c = search needs
+part-rewrite-as-read-end : tie.Need-part-rewrite-as-read-end
+part-rewrite-as-read-end c = search needs
 
-rewrite-requires : tie.Need-rewrite-requires
-rewrite-requires c κs = search needs
+rewrite-as-read-requires : tie.Need-rewrite-as-read-requires
+rewrite-as-read-requires c κs = search needs
 
 enum-known-n : tie.Need-enum-known-n
 enum-known-n c = search needs
@@ -72,7 +72,7 @@ returns c =
     let t = r .before .before in
     let s = start t in
     let (w, hw, room) = known t in
-    let (a, le) = rewritten-there (s .args .tag) (s .args .value .now) w (s .args .out .now) _ _ (s .pre .0) hw room (r .rewrite .ensures) in
+    let (a, le) = rewritten-there (s .args .tag) (s .args .value .now) w (s .args .out .now) _ _ (s .pre .0) hw room (r .rewrite-as-read .ensures) in
     absurd (never (sym (ap countedOf (c .enum-told .given .1)) ∙ a))
 
 frame-requires : tie.Need-frame-requires
@@ -97,7 +97,7 @@ returns-2 c =
     let t = r .before .before in
     let s = start t in
     let w = known t in
-    let there = rewritten-there (s .args .tag) (s .args .value .now) (w .0) (s .args .out .now) _ _ (s .pre .0) (w .1) (w .2) (r .rewrite .ensures) in
+    let there = rewritten-there (s .args .tag) (s .args .value .now) (w .0) (s .args .out .now) _ _ (s .pre .0) (w .1) (w .2) (r .rewrite-as-read .ensures) in
     address-put (s .args .tag) (s .args .value .now) (w .0) (s .args .out .now) _ _ (k .before .n .given .0 .0) _ (sym (t .before .is-address .ensures) ∙ t .if1 .taken) (w .1) (sized k) refl (w .2) (there .1) (f .frame .ensures)
 
 encode-requires : tie.Need-encode-requires
@@ -127,10 +127,10 @@ put-settled-spec =
     tie.close
     (tie.spec
     is-address-requires
-    sub-rewrite
-    part-rewrite-start
-    part-rewrite-end
-    rewrite-requires
+    sub-rewrite-as-read
+    part-rewrite-as-read-start
+    part-rewrite-as-read-end
+    rewrite-as-read-requires
     enum-known-n
     enum-told
     same-length

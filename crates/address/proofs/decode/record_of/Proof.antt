@@ -57,22 +57,22 @@ shared-slice-read-bits : tie.Need-shared-slice-read-bits
 shared-slice-read-bits c = search needs
 
 title-in-requires : tie.Need-title-in-requires
-title-in-requires c κs = let s = begun (c .before .before .before .before .before .before .before .before) in (sound (s .pre .known) (s .pre .whole) .title, s .pre .known .within)
+title-in-requires c κs = let s = begun (c .before .before .before .before .before .before .before .before .before .before .before) in (sound (s .pre .known) (s .pre .whole) .title, s .pre .known .within)
 
 code-in-requires : tie.Need-code-in-requires
-code-in-requires c κs = let s = begun (c .before .before .before .before .before .before .before .before .before) in (sound (s .pre .known) (s .pre .whole) .code, s .pre .known .within)
+code-in-requires c κs = let s = begun (c .before .before .before .before .before .before .before .before .before .before .before .before) in (sound (s .pre .known) (s .pre .whole) .code, s .pre .known .within)
 
 ssn-in-requires : tie.Need-ssn-in-requires
-ssn-in-requires c κs = let s = begun (c .before .before .before .before .before .before .before .before .before .before) in sound (s .pre .known) (s .pre .whole) .ssn
+ssn-in-requires c κs = let s = begun (c .before .before .before .before .before .before .before .before .before .before .before .before .before) in sound (s .pre .known) (s .pre .whole) .ssn
 
 returns-2 : tie.Need-returns-2
 returns-2 c =
-    let f = c .before .before .before .before .before .before .before .before .before .before in
+    let f = c .before .before .before .before .before .before .before .before .before .before .before .before .before in
     let b = f .before in
     let s = begun b in
     let v = s .args .value .now in
     let small : b .be16 .result ≤ 4 = subst (λ (n : ℕ). n ≤ 4) (sym (routed b)) (s .pre .known .routing) in
-    let routing = routing-kept _ _ _ (f .from-u16 .ensures) (c .before .before .before .before .before .before .before .before .routing-indicator .given .1) small ∙ ap routingNamed (routed b) in
+    let routing = routing-kept _ _ _ (f .from-u16 .ensures) (c .before .before .before .before .before .before .before .before .before .before .before .routing-indicator .given .1) small ∙ ap routingNamed (routed b) in
     record-made (s .pre) _ _ _ _ _ _ _ routing refl refl (ap (λ (n : ℕ). eqb (n % 2) 1) (by-one (getD v 3 0))) (c .before .before .title-in .ensures) (c .before .code-in .ensures) (c .ssn-in .ensures)
 
 pub record-of-spec : {M : Type 1} → statement M

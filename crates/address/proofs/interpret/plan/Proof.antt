@@ -39,7 +39,7 @@ returns-2 : tie.Need-returns-2
 returns-2 c =
     let y = c .before .before .before in
     let a = y .before .before .args in
-    plan-refused (a .written) (a .tag) (a .value .now) (c .before .r .given .0 .0) (interpreted-refused (a .value .now) _ _ (answered y _ (c .before .r .given .1)))
+    plan-refused (a .written) (a .checked) (a .tag) (a .value .now) (c .before .r .given .0 .0) (interpreted-refused (a .value .now) _ _ (answered y _ (c .before .r .given .1)))
 
 returns-3 : tie.Need-returns-3
 returns-3 c = rw (c .if1 .left) (known (c .before .before))

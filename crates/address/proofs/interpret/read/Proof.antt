@@ -16,6 +16,7 @@ use Rattle.address.proofs.Interpreting.{read-beyond, read-few, read-unr
 use Rattle.address.proofs.Planning.{mapped-refused, walked}
 use Rattle.address.proofs.Interpreted.{read-short, read-interpreted, refused-interpreted}
 use borrow.Author.Needs.{needs}
+use borrow.Author.Tests.{lt-ltb, le-ltb}
 use Rattle.address.proofs.interpret.read.Statement.{statement}
 use Rattle.address.proofs.interpret.read.Tie as tie
 
@@ -93,7 +94,7 @@ returns-4 c =
     let y = c .before .before .before .before .before .before .before in
     let part = c .before .before .before .before .before .parts .given .0 .0 in
     let k = known y part (c .before .before .before .before .before .parts .given .1) in
-    let t = c .before .before .if3 .taken in
+    let t = lt-ltb 0 (part .short .tag) (c .before .if3 .taken) in
     refused-interpreted (start y .args .value .now) _ _ (read-short k t ∙ ap (λ (n : ℕ × List ℕ). refused (n .0) (n .1)) (sym (c .too-short .ensures)))
 
 returns-5 : tie.Need-returns-5
@@ -105,8 +106,8 @@ returns-5 c =
 
 returns-6 : tie.Need-returns-6
 returns-6 c =
-    let y = c .before .before .before .before .before in
-    read-interpreted (record { known = known y _ (c .before .before .before .parts .given .1); whole = c .if3 .left })
+    let y = c .before .before .before .before .before .before in
+    read-interpreted (record { known = known y _ (c .before .before .before .before .parts .given .1); whole = le-ltb 0 _ (c .if3 .left) })
 
 pub read-spec : {M : Type 1} → statement M
 read-spec =

@@ -6,18 +6,22 @@ use mathlib.Core.List.{List}
 use native.Mathlib.Omega.{arith}
 use lib.ListN.{length, getD, set, length-set}
 use lib.Seq.{length-take-le}
-use Rattle.bcd.specs.Outcome.{Delivered, accepted}
+use Rattle.bcd.specs.Outcome.{Octets, Delivered, accepted}
+use Rattle.bcd.proofs.Outcomes.{octets-of}
 use Rattle.parameter.specs.Parameter.{paddedLength}
 use Rattle.address.proofs.Titling.{title-room, put-even, put-odd}
 use Rattle.address.proofs.rewrite.put_title.Statement.{statement}
 use Rattle.address.proofs.rewrite.put_title.Tie as tie
+
+octets : (c : tie.After-smaller) → Octets (c .before .before .before .before .args .value .now)
+octets c = octets-of (c .before .before .before .before .args .value .now) (λ i. c .before .before .before .shared-slice-known .given i .fits)
 
 -- the count is at most an octet's, and there is room
 few : (c : tie.After-smaller) → c .smaller .result ≤ 255
 few c = let k = c .before .shared-slice-known2 .given 4 in omega (arith, c .smaller .ensures)
 
 room : (c : tie.After-smaller) → paddedLength (8 + (c .smaller .result + 1) / 2) ≤ length (c .before .before .before .before .args .out .now)
-room c = let s = c .before .before .before .before in title-room (s .args .value .now) (s .pre .0) (c .smaller .result) (c .smaller .ensures) (s .args .out .now) (s .pre .1)
+room c = let s = c .before .before .before .before in title-room (s .args .value .now) (octets c) (s .pre .0) (c .smaller .result) (c .smaller .ensures) (s .args .out .now) (s .pre .1)
 
 shared-slice-read-count : tie.Need-shared-slice-read-count
 shared-slice-read-count c = search needs
@@ -72,7 +76,7 @@ returns c =
     let s = m .before .before .before .before in
     let n = m .smaller .result in
     ap {B = Delivered} (λ (l : List ℕ). record { answer = accepted (((n + 1) / 2 + 15) / 4 * 4); buffer = set l 8 n }) (d .clear-reserved .ensures)
-    ∙ put-even (s .args .value .now) (s .pre .0) n (m .smaller .ensures) (s .args .out .now) (s .pre .1) _ _ (e .encode .ensures) _ (few m) (c .if1 .taken) (omega arith)
+    ∙ put-even (s .args .value .now) (octets m) (s .pre .0) n (m .smaller .ensures) (s .args .out .now) (s .pre .1) _ _ (e .encode .ensures) _ (few m) (c .if1 .taken) (omega arith)
 
 add-clear-high : tie.Need-add-clear-high
 add-clear-high c = search needs
@@ -95,7 +99,7 @@ returns-2 c =
     let i = 11 + (n + 1) / 2 in
     let same = h .clear-high .ensures ∙ ap (λ (l : List ℕ). set (set l 8 n) i (getD (set l 8 n) i 0 % 16)) (d .clear-reserved .ensures) in
     ap {B = Delivered} (λ (l : List ℕ). record { answer = accepted (((n + 1) / 2 + 15) / 4 * 4); buffer = l }) same
-    ∙ put-odd (s .args .value .now) (s .pre .0) n (m .smaller .ensures) (s .args .out .now) (s .pre .1) _ _ (e .encode .ensures) _ i (few m) (f .if1 .left) (omega arith) (omega arith)
+    ∙ put-odd (s .args .value .now) (octets m) (s .pre .0) n (m .smaller .ensures) (s .args .out .now) (s .pre .1) _ _ (e .encode .ensures) _ i (few m) (f .if1 .left) (omega arith) (omega arith)
 
 pub put-title-spec : {M : Type 1} → statement M
 put-title-spec =

@@ -9,11 +9,12 @@ use borrow.Rule.Slice.PartMut.{putMid}
 use Rattle.bcd.proofs.Writing.{Begun, begin}
 use Rattle.parameter.specs.Parameter.{Param, runOctets}
 use Rattle.address.specs.Address.{title, code}
+use Rattle.address.specs.Again.{withUnknown}
 use Rattle.address.specs.Steps.Kept.{keptCode, keptSub}
 use Rattle.address.specs.Steps.Plan.{headOctets}
 use Rattle.address.proofs.Planning.{sound, code-params, sub-params}
 use Rattle.address.proofs.Copying.{lent-length}
-use Rattle.address.proofs.Delivering.{Wrote, ready-behind, wrote, planned-pieces, codes, subs, planned-length, planned-others, planned-done}
+use Rattle.address.proofs.Delivering.{Wrote, ready-behind, wrote, planned-pieces, codes, subs, planned-length, planned-others, planned-done, planned-none}
 use Rattle.address.proofs.rewrite.write.Statement.{statement}
 use Rattle.address.proofs.rewrite.write.Tie as tie
 
@@ -59,7 +60,7 @@ coded c =
     let t = title-of c in
     let s = start (head-of t) in
     let y = titled t in
-    wrote (4 + t .write-title .result) (y .begun) (y .place) _ (codes (s .pre .0)) (code-params (keptCode (s .args .value .now) (s .args .parts .code)))
+    wrote (4 + t .write-title .result) (y .begun) (y .place) _ (codes (s .pre .0)) (code-params withUnknown (keptCode (s .args .value .now) (s .args .parts .code)))
     (omega (arith, planned-length (s .pre .0), s .pre .1, y .count)) _ _ (c .write-code .ensures)
 
 abbrev code-of : tie.After-write-ssn → tie.After-write-code
@@ -83,7 +84,7 @@ subbed c =
     let s = start (head-of t) in
     let x = titled t in
     let y = coded k in
-    wrote (4 + t .write-title .result + k .write-code .result) (y .begun) (y .place) _ (subs (s .pre .0)) (sub-params (keptSub (s .args .value .now) (s .args .parts .ssn)))
+    wrote (4 + t .write-title .result + k .write-code .result) (y .begun) (y .place) _ (subs (s .pre .0)) (sub-params withUnknown (keptSub (s .args .value .now) (s .args .parts .ssn)))
     (omega (arith, planned-length (s .pre .0), s .pre .1, x .count, y .count)) _ _ (c .write-ssn .ensures)
 
 write-head-requires : tie.Need-write-head-requires
@@ -126,7 +127,7 @@ write-code-requires c κs =
     let p = s .pre .0 in
     let y = titled t in (
       sound (p .read .known) (p .read .whole) .code,
-      ready-behind (4 + t .write-title .result) (y .begun) (y .place) _ (codes p) (code-params (keptCode (s .args .value .now) (s .args .parts .code))) (omega (arith, planned-length p, s .pre .1, y .count)),
+      ready-behind (4 + t .write-title .result) (y .begun) (y .place) _ (codes p) (code-params withUnknown (keptCode (s .args .value .now) (s .args .parts .code))) (omega (arith, planned-length p, s .pre .1, y .count)),
     )
 
 add-b : tie.Need-add-b
@@ -150,24 +151,24 @@ write-ssn-requires c κs =
     let x = titled t in
     let y = coded k in (
       sound (p .read .known) (p .read .whole) .ssn,
-      ready-behind (4 + t .write-title .result + k .write-code .result) (y .begun) (y .place) _ (subs p) (sub-params (keptSub (s .args .value .now) (s .args .parts .ssn))) (omega (arith, planned-length p, s .pre .1, x .count, y .count)),
+      ready-behind (4 + t .write-title .result + k .write-code .result) (y .begun) (y .place) _ (subs p) (sub-params withUnknown (keptSub (s .args .value .now) (s .args .parts .ssn))) (omega (arith, planned-length p, s .pre .1, x .count, y .count)),
     )
 
 add-c : tie.Need-add-c
 add-c c = let u = c .before .before in let k = code-of u in let t = title-of k in let s = start (head-of t) in omega (arith, titled t .count, coded k .count, subbed u .count, planned-length (s .pre .0), s .pre .0 .fits)
 
 sub-write-others : tie.Need-sub-write-others
-sub-write-others c = let y = subbed (c .before .before) in omega (arith, y .begun .fits, y .begun .same, y .place)
+sub-write-others c = let y = subbed (c .before .before .before .before) in omega (arith, y .begun .fits, y .begun .same, y .place)
 
 part-write-others-start : tie.Need-part-write-others-start
-part-write-others-start c = let y = subbed (c .before .before) in omega (arith, y .begun .fits, y .begun .same, y .place)
+part-write-others-start c = let y = subbed (c .before .before .before .before) in omega (arith, y .begun .fits, y .begun .same, y .place)
 
 part-write-others-end : tie.Need-part-write-others-end
 part-write-others-end c = search needs
 
 write-others-requires : tie.Need-write-others-requires
 write-others-requires c κs =
-    let u = c .before .before .before in
+    let u = c .before .before .before .before .before in
     let k = code-of u in
     let t = title-of k in
     let s = start (head-of t) in
@@ -182,13 +183,22 @@ same-length c = search needs
 returns : tie.Need-returns
 returns c =
     let o = c .before .before in
-    let u = o .before .before .before .before in
+    let u = o .before .before .before .before .before .before in
     let k = code-of u in
     let t = title-of k in
     let s = start (head-of t) in
     let p = s .pre .0 in
     let z = subbed u in
     planned-done p (s .args .out .now) (fourth u) _ _ (z .begun) (z .place) (omega (arith, planned-length p, s .pre .1, titled t .count, coded k .count, z .count)) (o .write-others .ensures)
+
+same-length-2 : tie.Need-same-length-2
+same-length-2 c = search needs
+
+returns-2 : tie.Need-returns-2
+returns-2 c =
+    let u = c .before .before .before .before in
+    let s = start (head-of (title-of (code-of u))) in
+    planned-none (s .pre .0) (s .args .out .now) (fourth u) (c .if1 .left) (subbed u .begun)
 
 pub write-spec : {M : Type 1} → statement M
 write-spec =
@@ -215,4 +225,6 @@ write-spec =
     part-write-others-end
     write-others-requires
     same-length
-    returns)
+    returns
+    same-length-2
+    returns-2)

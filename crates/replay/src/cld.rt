@@ -5,13 +5,77 @@ use crate::words::four;
 use crate::words::one;
 use crate::words::place;
 use crate::words::table_at;
+use address::SuaAddress;
 use bcd::error::Counted;
 use message::SuaMessage;
 ghost use Prim.Native.Nat.{_≤_};
 
-// The count or the refusal of the call at this place of the names. The octet strings are the digits of both addresses,
-// their values, and data; `at` is where the source's numbers stand.
+// The count or the refusal of the call at this place of the names, of two addresses with their values (sv, dv) and
+// tables, and data.
 fn write(
+    which: usize,
+    n: &[u64],
+    src: SuaAddress,
+    sv: &[u8],
+    st: &[u16],
+    ss: &[usize],
+    sl: &[usize],
+    dst: SuaAddress,
+    dv: &[u8],
+    dt: &[u16],
+    ds: &[usize],
+    dl: &[usize],
+    data: &[u8],
+    room: &mut [u8],
+) -> Counted {
+    let a = four(n, 0);
+    let b = one(n, 1);
+    let set = flag(n, 3);
+    if which == 1 {
+        let c = four(n, 2);
+        let d = one(n, 4);
+        return SuaMessage::cldt(
+            a,
+            b,
+            src,
+            sv,
+            st,
+            ss,
+            sl,
+            dst,
+            dv,
+            dt,
+            ds,
+            dl,
+            c,
+            set,
+            d,
+            data,
+            room,
+        );
+    }
+    SuaMessage::cldr(
+        a,
+        b,
+        one(n, 2),
+        src,
+        sv,
+        st,
+        ss,
+        sl,
+        dst,
+        dv,
+        dt,
+        ds,
+        dl,
+        set,
+        data,
+        room,
+    )
+}
+
+// Reads both addresses: `at` is where the source's numbers stand, and `a` and `b` are the digits.
+fn with_tables(
     which: usize,
     n: &[u64],
     at: usize,
@@ -32,57 +96,14 @@ fn write(
 {
     let src = address(n, at, a);
     let dst = address(n, at + 15, b);
-    let w = four(n, 0);
-    let x = one(n, 1);
-    let set = flag(n, 3);
-    if which == 1 {
-        let y = four(n, 2);
-        let z = one(n, 4);
-        return SuaMessage::cldt(
-            w,
-            x,
-            src,
-            c,
-            st,
-            ss,
-            sl,
-            dst,
-            d,
-            dt,
-            ds,
-            dl,
-            y,
-            set,
-            z,
-            e,
-            room,
-        );
-    }
-    SuaMessage::cldr(
-        w,
-        x,
-        one(n, 2),
-        src,
-        c,
-        st,
-        ss,
-        sl,
-        dst,
-        d,
-        dt,
-        ds,
-        dl,
-        set,
-        e,
-        room,
-    )
+    write(which, n, src, c, st, ss, sl, dst, d, dt, ds, dl, e, room)
 }
 
 pub(crate) fn which(name: &[u8]) -> usize {
     place(name, b"cldt cldr")
 }
 
-// Reads the destination's table, which stands among the numbers at `from`, and writes.
+// Reads the destination's table, which stands among the numbers at `from`.
 fn with_source(
     which: usize,
     n: &[u64],
@@ -107,7 +128,7 @@ fn with_source(
     let t = shape.tags;
     let s = shape.starts;
     let l = shape.lengths;
-    write(
+    with_tables(
         which,
         n,
         at,
@@ -126,7 +147,8 @@ fn with_source(
     )
 }
 
-// Reads the source's table, which stands behind both addresses, and goes on with the destination's.
+// The count or the refusal of the call at this place of the names. The octet strings are the digits of both addresses,
+// their values, and data. Reads the source's table, which stands behind both addresses.
 pub(crate) fn call(
     which: usize,
     n: &[u64],

@@ -1,21 +1,29 @@
 // The calls of the codec's functions on standard input, one on a line, each answered by one line.
-mod accessors;
-mod addresses;
-mod connectionless;
-mod constructors;
-mod digits;
-mod forms;
-mod messages;
-mod parameters;
+mod answers;
+mod buffers;
+mod cld;
+mod codes;
+mod lent;
+mod numbers;
 mod print;
+mod records;
 mod tables;
 mod words;
 
+use answers::Answer;
+use answers::Word;
+use answers::bare;
+use answers::counted;
 use bcd::smaller;
 use bytes::scan::find;
 use libc::STDIN_FILENO;
 use libc::STDOUT_FILENO;
+use print::answer_and_octets;
+use words::lent_codes;
+use words::one;
+use words::place;
 use words::string;
+use words::table_at;
 ghost use Prim.Native.Nat.{_≤_};
 ghost use lib.ListN.{length};
 
@@ -34,74 +42,238 @@ fn name_start(call: &[u8]) -> usize
     }
 }
 
-// The answer of a call that takes no table, or 0.
-fn plain(
+// The answer of a call that writes no buffer and is given no table, or 0.
+fn plain(name: &[u8], n: &[u64], a: &[u8], list: &mut [u32], line: &mut [u8]) -> usize {
+    let number = numbers::which(name);
+    if 0 < number {
+        return print::answer(numbers::call(number, n, a), line);
+    }
+    let message = numbers::which_message(name);
+    if 0 < message {
+        return print::answer(numbers::message_call(message, n, a), line);
+    }
+    let table = lent::which(name);
+    if 0 < table {
+        return lent::call(table, n, a, line);
+    }
+    let other = place(
+        name,
+        b"decode_gt_digits title_decode unpack_affected_point_codes",
+    );
+    match other {
+        1 => records::decode_gt_digits(a, one(n, 0), line),
+        2 => records::title_decode(a, line),
+        3 => codes::unpack(a, lent_codes(n, 0, list), line),
+        _ => 0,
+    }
+}
+
+// Where the table stands among the numbers of a call.
+fn table_place(name: &[u8]) -> usize {
+    if 0
+        < place(
+            name,
+            b"encode_parameters find_parameter affected_point_codes",
+        )
+    {
+        return 2;
+    }
+    if 0 < place(name, b"message_encode source_address destination_address") {
+        return 4;
+    }
+    if 0 < place(name, b"address_encode") {
+        return 16;
+    }
+    1
+}
+
+// The answer of a call that writes no buffer and is given a table, or 0.
+fn with_table(
     name: &[u8],
     n: &[u64],
     a: &[u8],
-    out: &mut [u8],
-    codes: &mut [u32],
+    tags: &[u16],
+    starts: &[usize],
+    lengths: &[usize],
+    list: &mut [u32],
     line: &mut [u8],
 ) -> usize {
-    let digit = digits::which(name);
-    if 0 < digit {
-        return digits::call(digit, n, a, out, line);
+    let which = tables::which(name);
+    if 0 < which {
+        return print::answer(tables::call(which, n, a, tags, starts, lengths), line);
     }
-    let parameter = parameters::which(name);
-    if 0 < parameter {
-        return parameters::call(parameter, n, a, out, line);
-    }
-    let address = addresses::which(name);
+    let m = tables::message(n);
+    let address = lent::which_address(name);
     if 0 < address {
-        return addresses::call(address, n, a, line);
+        return lent::address_call(address, m, n, a, tags, starts, lengths, line);
     }
-    let writer = addresses::which_writer(name);
-    if 0 < writer {
-        return addresses::writer(writer, n, a, out, line);
+    let other = place(name, b"data affected_point_codes");
+    match other {
+        1 => tables::data(m, a, tags, starts, lengths, line),
+        2 => tables::affected_point_codes(
+            m,
+            a,
+            tags,
+            starts,
+            lengths,
+            lent_codes(n, 1, list),
+            line,
+        ),
+        _ => 0,
     }
-    let message = messages::which(name);
-    if 0 < message {
-        return messages::call(message, n, a, out, line);
+}
+
+// Reads the table of a call that writes no buffer, and answers the call, or 0.
+fn tabled(name: &[u8], n: &[u64], a: &[u8], list: &mut [u32], line: &mut [u8]) -> usize {
+    let mut tags = [0u16; 64];
+    let mut starts = [0usize; 64];
+    let mut lengths = [0usize; 64];
+    let shape = table_at(n, table_place(name), &mut tags, &mut starts, &mut lengths);
+    let t = shape.tags;
+    let s = shape.starts;
+    let l = shape.lengths;
+    with_table(
+        name,
+        n,
+        a,
+        &tags[0..t],
+        &starts[0..s],
+        &lengths[0..l],
+        list,
+        line,
+    )
+}
+
+// Where the length of the buffer stands among the numbers of a call.
+fn room_at(name: &[u8]) -> usize {
+    if 0
+        < place(
+            name,
+            b"parameter_encode e164 rewrite encode_parameters asp_up_ack asp_down asp_down_ack heartbeat heartbeat_ack",
+        )
+    {
+        return 1;
     }
-    let constructor = constructors::which(name);
-    if 0 < constructor {
-        return constructors::call(constructor, n, a, out, line);
+    if 0
+        < place(
+            name,
+            b"with_ssn_pc asp_inactive asp_inactive_ack duna dava daud encode",
+        )
+    {
+        return 2;
     }
-    let coded = constructors::which_coded(name);
-    if 0 < coded {
-        return constructors::coded(coded, n, a, out, codes, line);
+    if 0 < place(name, b"asp_up message_encode") {
+        return 3;
     }
-    let table = tables::which(name);
-    if 0 < table {
-        return tables::call(table, n, a, line);
+    if 0 < place(name, b"header_encode asp_active asp_active_ack error cldr") {
+        return 4;
     }
-    let form = forms::which(name);
-    if 0 < form {
-        return forms::call(form, n, a, out, line);
+    if 0 < place(name, b"title_encode notify cldt") {
+        return 5;
+    }
+    if 0 < place(name, b"with_gt") {
+        return 7;
+    }
+    if 0 < place(name, b"address_encode") {
+        return 15;
     }
     0
 }
 
-// The answer of CLDT or CLDR, or 0.
-fn cld(
+// Reads the table of a call that writes a buffer, and writes it.
+fn write_tabled(
+    which: usize,
     name: &[u8],
     n: &[u64],
-    octets: &[u8],
-    ends: &[usize],
-    out: &mut [u8],
-    line: &mut [u8],
-) -> usize {
+    a: &[u8],
+    b: &[u8],
+    room: &mut [u8],
+) -> Answer {
+    let mut tags = [0u16; 64];
+    let mut starts = [0usize; 64];
+    let mut lengths = [0usize; 64];
+    let shape = table_at(n, table_place(name), &mut tags, &mut starts, &mut lengths);
+    let t = shape.tags;
+    let s = shape.starts;
+    let l = shape.lengths;
+    tables::write(
+        which,
+        n,
+        a,
+        b,
+        &tags[0..t],
+        &starts[0..s],
+        &lengths[0..l],
+        room,
+    )
+}
+
+// Writes the buffer of CLDT or CLDR.
+fn write_cld(name: &[u8], n: &[u64], octets: &[u8], ends: &[usize], room: &mut [u8]) -> Answer {
     let a = string(octets, ends, 0);
     let b = string(octets, ends, 1);
     let c = string(octets, ends, 2);
     let d = string(octets, ends, 3);
     let e = string(octets, ends, 4);
-    let which = connectionless::which(name);
+    let which = cld::which(name);
     match which {
-        1 => connectionless::call(which, n, 5, a, b, c, d, e, out, line),
-        2 => connectionless::call(which, n, 4, a, b, c, d, e, out, line),
-        _ => 0,
+        1 => counted(cld::call(which, n, 6, a, b, c, d, e, room)),
+        2 => counted(cld::call(which, n, 5, a, b, c, d, e, room)),
+        _ => bare(Word::Unknown),
     }
+}
+
+// Writes the buffer of a call.
+fn write(
+    name: &[u8],
+    n: &[u64],
+    octets: &[u8],
+    ends: &[usize],
+    list: &mut [u32],
+    room: &mut [u8],
+) -> Answer {
+    let a = string(octets, ends, 0);
+    let b = string(octets, ends, 1);
+    let which = buffers::which(name);
+    if 0 < which {
+        return counted(buffers::write(which, n, a, room));
+    }
+    let constructor = buffers::which_constructor(name);
+    if 0 < constructor {
+        return counted(buffers::construct(constructor, n, a, room));
+    }
+    let number = buffers::which_plain(name);
+    if 0 < number {
+        return counted(buffers::construct_plain(number, n, room));
+    }
+    let code = codes::which(name);
+    if 0 < code {
+        return counted(codes::pack(code, n, list, room));
+    }
+    let table = tables::which_writer(name);
+    if 0 < table {
+        return write_tabled(table, name, n, a, b, room);
+    }
+    let other = buffers::which_other(name);
+    if 0 < other {
+        return buffers::write_other(other, n, a, room);
+    }
+    write_cld(name, n, octets, ends, room)
+}
+
+// The answer of a call that writes a buffer, or `unknown`.
+fn buffered(
+    name: &[u8],
+    n: &[u64],
+    octets: &[u8],
+    ends: &[usize],
+    out: &mut [u8],
+    list: &mut [u32],
+    line: &mut [u8],
+) -> usize {
+    let room = words::lent(n, room_at(name), out);
+    let answer = write(name, n, octets, ends, list, room);
+    answer_and_octets(answer, room, line)
 }
 
 // The answer of a call, of its name, numbers and octet strings.
@@ -111,20 +283,19 @@ fn called(
     octets: &[u8],
     ends: &[usize],
     out: &mut [u8],
-    codes: &mut [u32],
+    list: &mut [u32],
     line: &mut [u8],
 ) -> usize {
     let a = string(octets, ends, 0);
-    let b = string(octets, ends, 1);
-    let first = plain(name, n, a, out, codes, line);
+    let first = plain(name, n, a, list, line);
     if 0 < first {
         return first;
     }
-    let second = tables::tabled(name, n, a, b, out, codes, line);
+    let second = tabled(name, n, a, list, line);
     if 0 < second {
         return second;
     }
-    cld(name, n, octets, ends, out, line)
+    buffered(name, n, octets, ends, out, list, line)
 }
 
 // The answer of a line.
@@ -144,7 +315,7 @@ fn answer(
     let mut ends = [0usize; 6];
     let given = words::arguments(call, end + 1, numbers, octets, &mut ends);
     let count = smaller(given, numbers.len());
-    let at = called(
+    called(
         &call[start..end],
         &numbers[0..count],
         octets,
@@ -152,11 +323,7 @@ fn answer(
         out,
         codes,
         line,
-    );
-    if 0 < at {
-        return at;
-    }
-    print::word(b"unknown", 0, line)
+    )
 }
 
 // Prints the first n characters of a line, and a line feed.

@@ -1,9 +1,12 @@
 // How answers are printed. A character that the line has no room for is left out.
+use crate::answers::Answer;
+use crate::answers::Word;
+use crate::answers::wide_four;
+use crate::answers::wide_size;
+use crate::answers::wide_two;
 use crate::words::put_octet;
 use crate::words::put_octets;
-use bcd::error::Counted;
-use bcd::error::Refusal;
-use parameter::Place;
+use bcd::smaller;
 ghost use Prim.Native.Nat.{_≤_, _<_};
 ghost use lib.ListN.{length};
 
@@ -16,12 +19,6 @@ fn space(at: usize, line: &mut [u8]) -> usize {
     }
 }
 
-// Stores a word.
-pub(crate) fn word(characters: &[u8], at: usize, line: &mut [u8]) -> usize {
-    let to = space(at, line);
-    put_octets(characters, to, line)
-}
-
 // Stores a number's decimal digits.
 fn decimal(n: u64, at: usize, line: &mut [u8]) -> usize {
     let mut digits = [0u8; 20];
@@ -30,7 +27,7 @@ fn decimal(n: u64, at: usize, line: &mut [u8]) -> usize {
 }
 
 // Stores a number as a word.
-pub(crate) fn number(n: u64, at: usize, line: &mut [u8]) -> usize {
+fn number(n: u64, at: usize, line: &mut [u8]) -> usize {
     let to = space(at, line);
     decimal(n, to, line)
 }
@@ -123,27 +120,6 @@ pub(crate) fn octets(list: &[u8], at: usize, line: &mut [u8]) -> usize {
     to
 }
 
-// A number of 8, 16 or 32 bits, or a flag, as one of 64.
-pub(crate) fn wide(n: u8) -> u64 {
-    n as u64
-}
-
-pub(crate) fn wide_two(n: u16) -> u64 {
-    n as u64
-}
-
-pub(crate) fn wide_four(n: u32) -> u64 {
-    n as u64
-}
-
-pub(crate) fn wide_size(n: usize) -> u64 {
-    n as u64
-}
-
-pub(crate) fn wide_flag(set: bool) -> u64 {
-    if set { 1 } else { 0 }
-}
-
 // Stores the number at place i of a column.
 fn item(i: usize, n: u64, at: usize, line: &mut [u8]) -> usize {
     if i == 0 {
@@ -153,9 +129,15 @@ fn item(i: usize, n: u64, at: usize, line: &mut [u8]) -> usize {
     decimal(n, to, line)
 }
 
+// Stores the letter that a column's word starts with.
+fn letter(character: u8, at: usize, line: &mut [u8]) -> usize {
+    let to = space(at, line);
+    put_octet(character, to, line)
+}
+
 // Stores the column of tags as a word.
 fn tags(list: &[u16], at: usize, line: &mut [u8]) -> usize {
-    let mut to = word(b"t", at, line);
+    let mut to = letter(b't', at, line);
     let mut i = 0;
     while i < list.len() {
         to = item(i, wide_two(list[i]), to, line);
@@ -165,8 +147,8 @@ fn tags(list: &[u16], at: usize, line: &mut [u8]) -> usize {
 }
 
 // Stores a column of starts or lengths as a word.
-fn sizes(letter: &[u8], list: &[usize], at: usize, line: &mut [u8]) -> usize {
-    let mut to = word(letter, at, line);
+fn sizes(character: u8, list: &[usize], at: usize, line: &mut [u8]) -> usize {
+    let mut to = letter(character, at, line);
     let mut i = 0;
     while i < list.len() {
         to = item(i, wide_size(list[i]), to, line);
@@ -176,8 +158,8 @@ fn sizes(letter: &[u8], list: &[usize], at: usize, line: &mut [u8]) -> usize {
 }
 
 // Stores the column of codes as a word.
-pub(crate) fn codes(list: &[u32], at: usize, line: &mut [u8]) -> usize {
-    let mut to = word(b"c", at, line);
+fn codes(list: &[u32], at: usize, line: &mut [u8]) -> usize {
+    let mut to = letter(b'c', at, line);
     let mut i = 0;
     while i < list.len() {
         to = item(i, wide_four(list[i]), to, line);
@@ -195,63 +177,48 @@ pub(crate) fn columns(
     line: &mut [u8],
 ) -> usize {
     let a = tags(tag_list, at, line);
-    let b = sizes(b"s", starts, a, line);
-    sizes(b"l", lengths, b, line)
+    let b = sizes(b's', starts, a, line);
+    sizes(b'l', lengths, b, line)
 }
 
-// How many values a refusal has.
-fn values(which: u64) -> usize
-    ensures { λ r. ⌜ r ≤ 3 ⌝ }
-{
-    match which {
-        1 | 4 | 5 | 10 => 2,
-        6 => 3,
-        15 => 0,
-        _ => 1,
+// Stores the word of an answer at the front of a line.
+fn word(w: Word, line: &mut [u8]) -> usize {
+    match w {
+        Word::Nothing => 0,
+        Word::Ok => put_octets(b"ok", 0, line),
+        Word::None => put_octets(b"none", 0, line),
+        Word::End => put_octets(b"end", 0, line),
+        Word::Unknown => put_octets(b"unknown", 0, line),
+        Word::Refused => put_octets(b"refused", 0, line),
     }
 }
 
-// The line of a refusal: its number and its values.
-pub(crate) fn refused(r: Refusal, line: &mut [u8]) -> usize {
-    let mut list = [0u64; 4];
-    let which = report::store(Counted::Refused(r), &mut list);
-    let count = 1 + values(which);
-    let at = word(b"refused", 0, line);
-    numbers(&list[0..count], at, line)
+// Stores the first of numbers as words.
+fn first_numbers(list: &[u64], count: usize, at: usize, line: &mut [u8]) -> usize {
+    let n = smaller(count, list.len());
+    numbers(&list[0..n], at, line)
 }
 
-// The line of an answer of numbers.
-pub(crate) fn ok(list: &[u64], line: &mut [u8]) -> usize {
-    let at = word(b"ok", 0, line);
-    numbers(list, at, line)
+// Stores an answer at the front of a line.
+pub(crate) fn answer(given: Answer, line: &mut [u8]) -> usize {
+    let w = given.word;
+    let list = given.list;
+    let at = word(w, line);
+    first_numbers(&list, given.count, at, line)
 }
 
-// The line of an answer of one number.
-pub(crate) fn ok_one(n: u64, line: &mut [u8]) -> usize {
-    let at = word(b"ok", 0, line);
-    number(n, at, line)
-}
-
-// The line of a count, or of a refusal.
-pub(crate) fn verdict(answer: Counted, line: &mut [u8]) -> usize {
-    match answer {
-        Counted::Count(n) => ok_one(n as u64, line),
-        Counted::Refused(r) => refused(r, line),
+// Stores an answer and octets; where a name or a message type is unknown, the answer alone.
+pub(crate) fn answer_and_octets(given: Answer, list: &[u8], line: &mut [u8]) -> usize {
+    let w = given.word;
+    let at = answer(given, line);
+    match w {
+        Word::Unknown => at,
+        _ => octets(list, at, line),
     }
 }
 
-// The line of a tag, a start and a length.
-pub(crate) fn ok_place(place: Place, line: &mut [u8]) -> usize {
-    let list = [
-        wide_two(place.tag),
-        wide_size(place.start),
-        wide_size(place.length),
-    ];
-    ok(&list, line)
-}
-
-// The line of a count, or of a refusal, and of the buffer that was lent.
-pub(crate) fn written(answer: Counted, buffer: &[u8], line: &mut [u8]) -> usize {
-    let at = verdict(answer, line);
-    octets(buffer, at, line)
+// Stores an answer and codes.
+pub(crate) fn answer_and_codes(given: Answer, list: &[u32], line: &mut [u8]) -> usize {
+    let at = answer(given, line);
+    codes(list, at, line)
 }

@@ -320,12 +320,12 @@ fn list<'a>(numbers: &'a [u64], at: usize) -> &'a [u64] {
 }
 
 // The place behind the list at a place.
-pub(crate) fn behind(numbers: &[u64], at: usize) -> usize {
+fn behind(numbers: &[u64], at: usize) -> usize {
     saturating_add(saturating_add(at, 1), list(numbers, at).len())
 }
 
 // Stores the tags of the list at a place, and answers how many there are.
-pub(crate) fn tags_at(numbers: &[u64], at: usize, tags: &mut [u16]) -> usize
+fn tags_at(numbers: &[u64], at: usize, tags: &mut [u16]) -> usize
     ensures { λ r. ⌜ r ≤ length (now (tags .exit)) ⌝ }
 {
     let from = list(numbers, at);
@@ -339,7 +339,7 @@ pub(crate) fn tags_at(numbers: &[u64], at: usize, tags: &mut [u16]) -> usize
 }
 
 // Stores the starts or lengths of the list at a place, and answers how many there are.
-pub(crate) fn sizes_at(numbers: &[u64], at: usize, sizes: &mut [usize]) -> usize
+fn sizes_at(numbers: &[u64], at: usize, sizes: &mut [usize]) -> usize
     ensures { λ r. ⌜ r ≤ length (now (sizes .exit)) ⌝ }
 {
     let from = list(numbers, at);
@@ -364,4 +364,34 @@ pub(crate) fn codes_at(numbers: &[u64], at: usize, codes: &mut [u32]) -> usize
         i += 1;
     }
     count
+}
+
+// How many tags, starts and lengths a table has, and the place behind it.
+pub(crate) struct Shape {
+    pub(crate) tags: usize,
+    pub(crate) starts: usize,
+    pub(crate) lengths: usize,
+    pub(crate) end: usize,
+}
+
+// Stores the table at a place: three lists.
+pub(crate) fn table_at(
+    numbers: &[u64],
+    at: usize,
+    tags: &mut [u16],
+    starts: &mut [usize],
+    lengths: &mut [usize],
+) -> Shape
+    ensures { λ r. ⌜ r .tags ≤ length (now (tags .exit)) ⌝ }
+    ensures { λ r. ⌜ r .starts ≤ length (now (starts .exit)) ⌝ }
+    ensures { λ r. ⌜ r .lengths ≤ length (now (lengths .exit)) ⌝ }
+{
+    let second = behind(numbers, at);
+    let third = behind(numbers, second);
+    Shape {
+        tags: tags_at(numbers, at, tags),
+        starts: sizes_at(numbers, second, starts),
+        lengths: sizes_at(numbers, third, lengths),
+        end: behind(numbers, third),
+    }
 }

@@ -12,11 +12,8 @@ Inv-loop list at line₀ to₀ i₀ line to i = (length line ≡ length line₀)
 abbrev μ-loop : tie.MeasureT-loop
 μ-loop list at line₀ to₀ i₀ line to i = length list - i
 
-slice-aggregate-word : tie.Need-slice-aggregate-word Inv-loop μ-loop
-slice-aggregate-word c = search needs
-
-word-requires : tie.Need-word-requires Inv-loop μ-loop
-word-requires c κs = search needs
+letter-requires : tie.Need-letter-requires Inv-loop μ-loop
+letter-requires c κs = search needs
 
 loop-holds : tie.Need-loop-holds Inv-loop μ-loop
 loop-holds c = search needs
@@ -54,8 +51,7 @@ codes-spec =
     (tie.spec
     Inv-loop
     μ-loop
-    slice-aggregate-word
-    word-requires
+    letter-requires
     loop-holds
     mul-wide-four
     shared-slice-read-wide-four

@@ -7,13 +7,13 @@ use Rattle.replay.proofs.print.sizes.Statement.{statement}
 use Rattle.replay.proofs.print.sizes.Tie as tie
 
 abbrev Inv-loop : tie.InvT-loop
-Inv-loop letter list at line₀ to₀ i₀ line to i = (length line ≡ length line₀) × (i ≤ length list)
+Inv-loop character list at line₀ to₀ i₀ line to i = (length line ≡ length line₀) × (i ≤ length list)
 
 abbrev μ-loop : tie.MeasureT-loop
-μ-loop letter list at line₀ to₀ i₀ line to i = length list - i
+μ-loop character list at line₀ to₀ i₀ line to i = length list - i
 
-word-requires : tie.Need-word-requires Inv-loop μ-loop
-word-requires c κs = search needs
+letter-requires : tie.Need-letter-requires Inv-loop μ-loop
+letter-requires c κs = search needs
 
 loop-holds : tie.Need-loop-holds Inv-loop μ-loop
 loop-holds c = search needs
@@ -51,7 +51,7 @@ sizes-spec =
     (tie.spec
     Inv-loop
     μ-loop
-    word-requires
+    letter-requires
     loop-holds
     mul-wide-size
     shared-slice-read-wide-size

@@ -127,6 +127,16 @@ fn digit_at(bytes: &[u8], i: usize) -> u8
     nibble_to_char(byte / 16)
 }
 
+// The digit at place i of octets that may end before it, where it reads as a half octet of 0.
+pub fn digit_in(bytes: &[u8], i: usize) -> u8
+    ensures { λ r. ⌜ r ≡ builtIn .char (getD (halves (now (bytes .entry))) i 0) ⌝ }
+{
+    if bytes.len() <= i / 2 {
+        return nibble_to_char(0);
+    }
+    digit_at(bytes, i)
+}
+
 // Stores the first n digits.
 fn unpack_digits(bytes: &[u8], n: usize, out: &mut [u8])
     requires { ⌜ n ≤ 2 * length (now bytes) ⌝ }

@@ -1,15 +1,15 @@
 -- The fields of an address in the account, part by part.
-use Prim.Native.Nat.{ℕ, zero, _+_, _-_, _*_, _≤_, _<_}
+use Prim.Native.Nat.{ℕ, zero, _+_, _-_, _*_, _≤_, _<_, min}
 use mathlib.Core.Path.{_≡_, sym, ap, _∙_, subst}
 use mathlib.Core.Bool.{true, false}
-use mathlib.Core.List.{List, [], _∷_, map, append-nil}
+use mathlib.Core.List.{List, [], _∷_, _++_, map, map-append, append-nil}
 use native.Mathlib.Omega.{arith}
-use lib.ListN.{length, getD, take, drop, replicate, length-append, length-drop}
-use lib.Seq.{take-at}
-use Rattle.bcd.specs.Outcome.{Outcome, accepted, refused, most, deliver}
-use Rattle.bcd.specs.Digits.{builtIn, digitsIn, readDigits}
-use Rattle.bcd.proofs.Outcomes.{accepted-inj, never, bounded-within, deliver-answer, deliver-buffer}
-use Rattle.bcd.proofs.Reading.{digits-length}
+use native.Mathlib.Numerals.{add-one}
+use lib.ListN.{length, getD, take, drop, length-drop}
+use lib.Seq.{take-suc}
+use Rattle.bcd.specs.Digits.{halves, builtIn, digitsIn}
+use Rattle.bcd.proofs.Halves.{halves-length}
+use Rattle.bcd.proofs.Reading.{digits-length, digits-most}
 use Rattle.parameter.specs.declared.Place.{Place}
 use Rattle.parameter.specs.Parameter.{four, fourIn, twoAt}
 use Rattle.parameter.specs.Walk.{valued}
@@ -20,59 +20,52 @@ use Rattle.address.specs.Steps.Kept.{keptValue, keptTitle, keptCode, keptSub}
 use Rattle.address.specs.Listing.{isOther, otherPlaces}
 use Rattle.address.specs.declared.parts.Kept.{Kept}
 use Rattle.address.proofs.Keeping.{value-at, placeOf}
+use Rattle.address.proofs.Planning.{whole-part}
 use Rattle.entry.specs.Account.{placeOctets, placesOctets, marked, titleFields}
 use Rattle.message.specs.Accessors.{moved}
 use Rattle.entry.specs.Steps.Emitting.{Emitted}
+use Rattle.entry.proofs.Emission.{emitted-none, emitted-more, emitted-beyond}
 
--- the digits that were read
-pub record DigitsRead (w : List ℕ) (count n : ℕ) (ds : List ℕ) : Type 0 where
-  pub few : n ≤ 255
-  pub number : n ≡ length (digitsIn builtIn w count)
-  pub whole : length ds ≡ 255
-  pub same : take n ds ≡ digitsIn builtIn w count
+-- the first i digits
+pub digits-none : (xs d : List ℕ) (at : ℕ) → Emitted d at (digitsIn builtIn xs 0) at d
+unfolding digitsIn
+digits-none xs d at = emitted-none d at
 
-module _ (w : List ℕ) (count : ℕ) (within : length w ≤ most) (small : count < 256) where
-  room : length (digitsIn builtIn w count) ≤ 255
-  room = omega (arith, digits-length builtIn w count)
-
-  answered :
-      {a : Outcome ℕ} {ds : List ℕ}
-      → record { answer = a; buffer = ds } ≡ deliver (readDigits builtIn w count) (replicate 255 0)
-      → record { answer = a; buffer = ds } ≡ deliver (accepted (digitsIn builtIn w count)) (replicate 255 0)
-  unfolding readDigits
-  answered e = e ∙ ap (λ o. deliver o (replicate 255 0)) (bounded-within w (accepted (digitsIn builtIn w count)) within)
-
-  pub digits-read :
-      {n : ℕ} {ds : List ℕ}
-      → record { answer = accepted n; buffer = ds } ≡ deliver (readDigits builtIn w count) (replicate 255 0)
-      → DigitsRead w count n ds
-  digits-read {n} {ds} e =
-      let os = digitsIn builtIn w count in
-      let zeros : List ℕ = replicate 255 0 in
-      let number : n ≡ length os = accepted-inj (deliver-answer os (replicate 255 0) room (answered e)) in
-      let held = deliver-buffer os (replicate 255 0) room (answered e) in
-      record {
-        few = omega (arith, room);
-        number = number;
-        whole = ap length held ∙ length-append os (drop (length os) zeros) ∙ omega (arith, room, length-drop (length os) zeros);
-        same = ap (λ (l : List ℕ). take n l) held ∙ take-at os (drop (length os) (replicate 255 0)) n (sym number);
-      }
-
-  pub digits-never :
-      {m : ℕ} {vs ds : List ℕ} → record { answer = refused m vs; buffer = ds } ≡ deliver (readDigits builtIn w count) (replicate 255 0) → ⊥
-  digits-never e = never (deliver-answer (digitsIn builtIn w count) (replicate 255 0) room (answered e))
+pub digits-next :
+    (xs : List ℕ) (i octet : ℕ) {d e f : List ℕ} {at a b : ℕ}
+    → i < 2 * length xs
+    → octet ≡ builtIn .char (getD (halves xs) i 0)
+    → Emitted d at (digitsIn builtIn xs i) a e
+    → Emitted e a (octet ∷ []) b f
+    → Emitted d at (digitsIn builtIn xs (i + 1)) b f
+unfolding digitsIn
+digits-next xs i octet {d} {e} {f} {at} {a} {b} h o x y =
+    let hs = halves xs in
+    let there : i < length hs = omega (arith, halves-length xs) in
+    let one : take (i + 1) hs ≡ take i hs ++ (getD hs i 0 ∷ []) = rw add-one (take-suc hs i 0 there) in
+    let more : map (builtIn .char) (take i hs) ++ (octet ∷ []) ≡ map (builtIn .char) (take (i + 1) hs) =
+    ap (λ (c : ℕ). map (builtIn .char) (take i hs) ++ (c ∷ [])) o ∙ sym (map-append (builtIn .char) (take i hs) (getD hs i 0 ∷ [])) ∙ sym (ap (map (builtIn .char)) one) in
+    subst (λ (os : List ℕ). Emitted d at os b f) more (emitted-more x y)
 
 -- a title's fields, from the count and the digits that were stored
-pub title-stored :
-    (v : List ℕ) (n : ℕ) (ds : List ℕ) {d last : List ℕ} {at end : ℕ}
-    → DigitsRead (drop 8 v) (getD v 4 0) n ds
-    → Emitted d at (1 ∷ getD v 3 0 ∷ getD v 5 0 ∷ getD v 6 0 ∷ getD v 7 0 ∷ n ∷ take n ds) end last
-    → Emitted d at (1 ∷ titleFields (titleAt builtIn v)) end last
-title-stored v n ds {d} {last} {at} {end} r x =
-    let e : 1 ∷ getD v 3 0 ∷ getD v 5 0 ∷ getD v 6 0 ∷ getD v 7 0 ∷ n ∷ take n ds ≡ 1 ∷ titleFields (titleAt builtIn v) =
-    ap (λ (k : ℕ). 1 ∷ getD v 3 0 ∷ getD v 5 0 ∷ getD v 6 0 ∷ getD v 7 0 ∷ k ∷ take n ds) (r .number)
-    ∙ ap (λ (l : List ℕ). 1 ∷ getD v 3 0 ∷ getD v 5 0 ∷ getD v 6 0 ∷ getD v 7 0 ∷ length (digitsIn builtIn (drop 8 v) (getD v 4 0)) ∷ l) (r .same) in
-    subst (λ (os : List ℕ). Emitted d at os end last) e x
+module _ (v : List ℕ) (n : ℕ) (count : n ≡ min (getD v 4 0) (2 * (length v - 8))) where
+  number : n ≡ length (digitsIn builtIn (drop 8 v) (getD v 4 0))
+  number = omega (arith, digits-length builtIn (drop 8 v) (getD v 4 0), length-drop 8 v)
+
+  pub title-past : (d : List ℕ) (at : ℕ) → length d ≤ at → Emitted d at (1 ∷ titleFields (titleAt builtIn v)) (at + 6 + n) d
+  title-past d at h = emitted-beyond d at (1 ∷ titleFields (titleAt builtIn v)) h (omega (arith, number))
+
+  pub title-stored :
+      {d last : List ℕ} {at end : ℕ}
+      → Emitted d at (1 ∷ getD v 3 0 ∷ getD v 5 0 ∷ getD v 6 0 ∷ getD v 7 0 ∷ n ∷ digitsIn builtIn (take (length v - 8) (drop 8 v)) n) end last
+      → Emitted d at (1 ∷ titleFields (titleAt builtIn v)) end last
+  title-stored {d} {last} {at} {end} x =
+      let there : n ≡ min (getD v 4 0) (2 * length (drop 8 v)) = rw (length-drop 8 v) count in
+      let digits : digitsIn builtIn (take (length v - 8) (drop 8 v)) n ≡ digitsIn builtIn (drop 8 v) (getD v 4 0) =
+      ap (λ (w : List ℕ). digitsIn builtIn w n) (whole-part 8 v) ∙ ap (digitsIn builtIn (drop 8 v)) there ∙ digits-most builtIn (drop 8 v) (getD v 4 0) in
+      let front : List ℕ → List ℕ = λ l. 1 ∷ getD v 3 0 ∷ getD v 5 0 ∷ getD v 6 0 ∷ getD v 7 0 ∷ l in
+      subst (λ (os : List ℕ). Emitted d at os end last)
+      (ap (λ (l : List ℕ). front (n ∷ l)) digits ∙ ap (λ (k : ℕ). front (k ∷ digitsIn builtIn (drop 8 v) (getD v 4 0))) number) x
 
 -- a value, as the code lends it
 abbrev pub lentPart : List ℕ → Place → List ℕ

@@ -4,10 +4,8 @@ use mathlib.Core.Path.{_≡_, refl, sym, ap, _∙_, subst}
 use mathlib.Core.Bool.{Bool, true, false}
 use mathlib.Core.List.{List, [], _∷_, _++_, append-assoc, append-nil}
 use native.Mathlib.Omega.{arith}
-use native.Mathlib.Numerals.{add-one}
 use lib.Dec.{ltb}
-use lib.ListN.{length, getD, set, take, length-append, length-set}
-use lib.Seq.{take-suc}
+use lib.ListN.{length, set, length-append, length-set}
 use borrow.Author.Tests.{lt-ltb, le-ltb}
 use Rattle.bcd.specs.Outcome.{pick}
 use Rattle.bcd.proofs.Writing.{Begun, store}
@@ -69,17 +67,6 @@ emitted-more {d} {e} {f} {us} {vs} {at} {a} {b} x y =
 
 pub emitted-same : {d last os : List ℕ} {at end : ℕ} → Emitted d at os end last → length last ≡ length d
 emitted-same {d} {last} {os} {at} {end} x = ap length (x .held) ∙ emit-length d at os
-
--- one more of a list
-pub emitted-next :
-    {d e f : List ℕ} {at a b : ℕ} (os : List ℕ) (i : ℕ)
-    → Emitted d at (take i os) a e
-    → i < length os
-    → Emitted e a (getD os i 0 ∷ []) b f
-    → Emitted d at (take (i + 1) os) b f
-emitted-next {d} {e} {f} {at} {a} {b} os i x h y =
-    let t : take (i + 1) os ≡ take i os ++ (getD os i 0 ∷ []) = rw add-one (take-suc os i 0 h) in
-    subst (λ (p : List ℕ). Emitted d at p b f) (sym t) (emitted-more x y)
 
 -- where there is room for all, they stand behind what was written before
 pub emit-begun : {out p d : List ℕ} (at : ℕ) (os : List ℕ) → Begun out p d → length p ≡ at → at + length os ≤ length out → Begun out (p ++ os) (emit d at os)

@@ -18,10 +18,10 @@ use parameter::be16;
 ghost use mathlib.Core.Path.{_≡_};
 ghost use mathlib.Core.List.{[], _∷_, map};
 ghost use Prim.Native.Nat.{ℕ, _+_, _*_, _^_, _≤_, _<_};
-ghost use lib.ListN.{length, take};
+ghost use lib.ListN.{length};
 ghost use Rattle.bcd.specs.Outcome.{most, delivered, deliver};
 ghost use Rattle.bcd.specs.Answers.{countedOf};
-ghost use Rattle.bcd.specs.Digits.{builtIn};
+ghost use Rattle.bcd.specs.Digits.{builtIn, digitsIn};
 ghost use Rattle.parameter.specs.Parameter.{four};
 ghost use Rattle.address.specs.Address.{titleAt};
 ghost use Rattle.address.specs.Steps.Kept.{keptTitle, keptCode, keptSub};
@@ -81,17 +81,17 @@ fn put_place(place: Place, at: usize, out: &mut [u8]) -> usize
     put_four(place.length, c, out)
 }
 
-// Stores the first n digits.
-fn put_digits(digits: &[u8; 255], n: usize, at: usize, out: &mut [u8]) -> usize
-    requires { ⌜ length (now digits) ≡ 255 ⌝ }
+// Stores the first n digits of the octets.
+fn put_digits(bytes: &[u8], n: usize, at: usize, out: &mut [u8]) -> usize
     requires { ⌜ n ≤ 255 ⌝ }
+    requires { ⌜ n ≤ 2 * length (now bytes) ⌝ }
     requires { ⌜ at ≤ 2 ^ 59 ⌝ }
-    ensures { λ r. ⌜ Emitted (now (out .entry)) at (take n (now (digits .entry))) r (now (out .exit)) ⌝ }
+    ensures { λ r. ⌜ Emitted (now (out .entry)) at (digitsIn builtIn (now (bytes .entry)) n) r (now (out .exit)) ⌝ }
 {
     let mut to = at;
     let mut i = 0;
     while i < n {
-        to = put(digits[i], to, out);
+        to = put(bcd::digit_in(bytes, i), to, out);
         i += 1;
     }
     to
@@ -104,25 +104,18 @@ fn put_title(value: &[u8], at: usize, out: &mut [u8]) -> usize
     requires { ⌜ at ≤ 2 ^ 58 ⌝ }
     ensures { λ r. ⌜ Emitted (now (out .entry)) at (1 ∷ titleFields (titleAt builtIn (now (value .entry)))) r (now (out .exit)) ⌝ }
 {
+    let count = value[4] as usize;
+    let n = bcd::smaller(count, 2 * (value.len() - 8));
     if out.len() <= at {
-        let count = value[4] as usize;
-        return at + 6 + bcd::smaller(count, 2 * (value.len() - 8));
+        return at + 6 + n;
     }
     let a = put(1, at, out);
     let b = put(value[3], a, out);
     let c = put(value[5], b, out);
     let d = put(value[6], c, out);
     let e = put(value[7], d, out);
-    let read = bcd::decode_gt_digits(&value[8..], value[4]);
-    let answer = read.answer;
-    let digits = read.digits;
-    match answer {
-        Counted::Count(n) => {
-            let f = put(n as u8, e, out);
-            put_digits(&digits, n, f, out)
-        }
-        Counted::Refused(_) => e,
-    }
+    let f = put(n as u8, e, out);
+    put_digits(&value[8..], n, f, out)
 }
 
 // Stores the title, if there is one, else 0.

@@ -1,46 +1,54 @@
 -- `entry::account::put_title` meets its contract.
-use Prim.Native.Nat.{ℕ, _-_, _≤_, _<_}
-use mathlib.Core.Path.{_≡_, sym, ap, _∙_}
-use mathlib.Core.List.{List, _∷_}
+use Prim.Native.Nat.{_+_, _-_, _≤_}
+use mathlib.Core.Path.{_≡_, ap, _∙_}
 use native.Mathlib.Omega.{arith}
-use lib.ListN.{length, getD, take, drop, length-drop}
-use Rattle.entry.proofs.Emission.{emitted-more, emitted-beyond, emitted-same}
-use Rattle.entry.proofs.Describing.{DigitsRead, digits-read, digits-never, title-stored}
-use Rattle.bcd.specs.declared.error.Counted.{Counted}
-use Rattle.bcd.specs.Outcome.{accepted, most, deliver}
-use Rattle.bcd.specs.Answers.{countedOf}
-use Rattle.bcd.specs.Digits.{builtIn, readDigits}
-use lib.ListN.{replicate}
-use Rattle.bcd.proofs.Reading.{digits-length}
-use Rattle.address.specs.Address.{titleAt}
+use lib.ListN.{length, take, drop, length-drop}
 use Rattle.address.proofs.Planning.{whole-part}
-use Rattle.entry.specs.Account.{titleFields}
+use Rattle.entry.proofs.Emission.{emitted-more}
+use Rattle.entry.proofs.Describing.{title-past, title-stored}
 use borrow.Author.Needs.{needs}
 use Rattle.entry.proofs.account.put_title.Statement.{statement}
 use Rattle.entry.proofs.account.put_title.Tie as tie
 
--- the digits, of the part that was lent
-read :
-    (v : List ℕ) {n : ℕ} {ds : List ℕ}
-    → 8 ≤ length v
-    → length v ≤ most
-    → getD v 4 0 < 256
-    → record { answer = accepted n; buffer = ds } ≡ deliver (readDigits builtIn (take (length v - 8) (drop 8 v)) (getD v 4 0)) (replicate 255 0)
-    → DigitsRead (drop 8 v) (getD v 4 0) n ds
-read v h k o e = digits-read (drop 8 v) (getD v 4 0) (omega (arith, length-drop 8 v)) o (e ∙ ap (λ (w : List ℕ). deliver (readDigits builtIn w (getD v 4 0)) (replicate 255 0)) (whole-part 8 v))
+-- the places of the code, from the last octet stored back to the start
+abbrev fifth : tie.After-put6 → tie.After-put5
+fifth c = c .before .before .before .before
+
+abbrev fourth : tie.After-put5 → tie.After-put4
+fourth c = c .before .before .before .before .before
+
+abbrev third : tie.After-put4 → tie.After-put3
+third c = c .before .before .before .before .before
+
+abbrev second : tie.After-put3 → tie.After-put2
+second c = c .before .before .before .before .before
+
+abbrev first : tie.After-put2 → tie.After-put
+first c = c .before .before .before .before .before
+
+abbrev counted : tie.After-put → tie.After-smaller
+counted c = c .before .before .before
+
+abbrev start : tie.After-smaller → tie.Start
+start c = c .before .before .before .before
 
 -- the number of digits is at most an octet's
 few : (c : tie.After-smaller) → c .smaller .result ≤ 255
 few c = omega (arith, c .smaller .ensures, c .before .shared-slice-known2 .given 4)
+
+-- what was stored before the number of digits takes five octets
+behind : (c : tie.After-put5) → c .put5 .result ≡ start (counted (first (second (third (fourth c))))) .args .at + 5
+behind c =
+    let d = fourth c in
+    let e = third d in
+    let f = second e in
+    omega (arith, c .put5 .ensures .behind, d .put4 .ensures .behind, e .put3 .ensures .behind, f .put2 .ensures .behind, first f .put .ensures .behind)
 
 shared-slice-read-count : tie.Need-shared-slice-read-count
 shared-slice-read-count c = search needs
 
 cast-count : tie.Need-cast-count
 cast-count c = omega (arith, c .shared-slice-known2 .given 4)
-
-add-result : tie.Need-add-result
-add-result c = search needs
 
 sub-smaller : tie.Need-sub-smaller
 sub-smaller c = search needs
@@ -51,15 +59,17 @@ mul-smaller c = search needs
 smaller-requires : tie.Need-smaller-requires
 smaller-requires c κs = search needs
 
+add-result : tie.Need-add-result
+add-result c = search needs
+
 add-result-2 : tie.Need-add-result-2
-add-result-2 c = omega (arith, few c, c .before .before .before .before .before .pre)
+add-result-2 c = omega (arith, few (c .before), start (c .before) .pre)
 
 returns : tie.Need-returns
 returns c =
-    let s = c .before .before .before .before .before in
-    let v = s .args .value .now in
-    emitted-beyond (s .args .out .now) (s .args .at) (1 ∷ titleFields (titleAt builtIn v)) (c .before .before .if1 .taken)
-    (omega (arith, c .smaller .ensures, digits-length builtIn (drop 8 v) (getD v 4 0), length-drop 8 v))
+    let m = c .before in
+    let s = start m in
+    title-past (s .args .value .now) (m .smaller .result) (m .smaller .ensures) (s .args .out .now) (s .args .at) (c .if1 .taken)
 
 put-requires : tie.Need-put-requires
 put-requires c κs = search needs
@@ -88,78 +98,49 @@ shared-slice-read-put-4 c = search needs
 put-requires-5 : tie.Need-put-requires-5
 put-requires-5 c κs = search needs
 
-sub-decode-gt-digits : tie.Need-sub-decode-gt-digits
-sub-decode-gt-digits c = search needs
-
-part-decode-gt-digits-start : tie.Need-part-decode-gt-digits-start
-part-decode-gt-digits-start c = search needs
-
-part-decode-gt-digits-end : tie.Need-part-decode-gt-digits-end
-part-decode-gt-digits-end c = search needs
-
-shared-slice-read-decode-gt-digits : tie.Need-shared-slice-read-decode-gt-digits
-shared-slice-read-decode-gt-digits c = search needs
-
-decode-gt-digits-requires : tie.Need-decode-gt-digits-requires
-decode-gt-digits-requires c κs = search needs
-
-enum-known-answer : tie.Need-enum-known-answer
-enum-known-answer c = search needs
-
 cast-put : tie.Need-cast-put
-cast-put c =
-    let s = c .before .before .before .before .before .before .before .before .before .before .before .before .before .before .before .before .before .before .before .before .before .before .before .before .before .before .before .before .before .before .before .before .before .before in
-    let v = s .args .value .now in
-    let k = c .before .before .before .before .before in
-    let g = c .before .before .before .before .decode-gt-digits in
-    let e = c .before .answer .given .1 in
-    let r = read v (s .pre .0) (s .pre .1 .0) (k .shared-slice-known7 .given 4 .fits) (ap (λ (a : Counted). record { answer = countedOf a; buffer = g .result .digits }) (sym e) ∙ g .ensures) in
-    omega (arith, r .few)
+cast-put c = omega (arith, few (counted (first (second (third (fourth (c .before .before)))))))
 
 put-requires-6 : tie.Need-put-requires-6
 put-requires-6 c κs =
-    let s = c .before .before .before .before .before .before .before .before .before .before .before .before .before .before .before .before .before .before .before .before .before .before .before .before .before .before .before .before .before .before .before .before .before .before .before in
-    omega (arith, s .pre, c .before .before .before .before .before .before .before .before .before .before .before .before .before .before .before .before .before .before .before .before .before .before .before .before .before .before .before .before .before .before .put .ensures .behind, c .before .before .before .before .before .before .before .before .before .before .before .before .before .before .before .before .before .before .before .before .before .before .before .before .before .put2 .ensures .behind, c .before .before .before .before .before .before .before .before .before .before .before .before .before .before .before .before .before .before .before .before .put3 .ensures .behind, c .before .before .before .before .before .before .before .before .before .before .before .before .before .before .before .put4 .ensures .behind, c .before .before .before .before .before .before .before .before .before .before .put5 .ensures .behind)
+    let k = c .before .before .before in
+    omega (arith, behind k, start (counted (first (second (third (fourth k))))) .pre)
+
+sub-put-digits : tie.Need-sub-put-digits
+sub-put-digits c = search needs
+
+part-put-digits-start : tie.Need-part-put-digits-start
+part-put-digits-start c = search needs
+
+part-put-digits-end : tie.Need-part-put-digits-end
+part-put-digits-end c = search needs
 
 put-digits-requires : tie.Need-put-digits-requires
 put-digits-requires c κs =
-    let s = c .before .before .before .before .before .before .before .before .before .before .before .before .before .before .before .before .before .before .before .before .before .before .before .before .before .before .before .before .before .before .before .before .before .before .before .before .before .before .before .before in
+    let u = c .before .before .before .before in
+    let k = fifth u in
+    let m = counted (first (second (third (fourth k)))) in
+    let s = start m in
     let v = s .args .value .now in
-    let k = c .before .before .before .before .before .before .before .before .before .before .before in
-    let g = c .before .before .before .before .before .before .before .before .before .before .decode-gt-digits in
-    let e = c .before .before .before .before .before .before .before .answer .given .1 in
-    let r = read v (s .pre .0) (s .pre .1 .0) (k .shared-slice-known7 .given 4 .fits) (ap (λ (a : Counted). record { answer = countedOf a; buffer = g .result .digits }) (sym e) ∙ g .ensures) in
-    (r .whole, (r .few, omega (arith, s .pre, c .before .before .before .before .before .before .before .before .before .before .before .before .before .before .before .before .before .before .before .before .before .before .before .before .before .before .before .before .before .before .before .before .before .before .before .put .ensures .behind, c .before .before .before .before .before .before .before .before .before .before .before .before .before .before .before .before .before .before .before .before .before .before .before .before .before .before .before .before .before .before .put2 .ensures .behind, c .before .before .before .before .before .before .before .before .before .before .before .before .before .before .before .before .before .before .before .before .before .before .before .before .before .put3 .ensures .behind, c .before .before .before .before .before .before .before .before .before .before .before .before .before .before .before .before .before .before .before .before .put4 .ensures .behind, c .before .before .before .before .before .before .before .before .before .before .before .before .before .before .before .put5 .ensures .behind, c .before .before .before .before .put6 .ensures .behind)))
-
-enum-told : tie.Need-enum-told
-enum-told c = search needs
+    let l : length (take (length v - 8) (drop 8 v)) ≡ length v - 8 = ap length (whole-part 8 v) ∙ length-drop 8 v in
+    (few m, (omega (arith, m .smaller .ensures, l), omega (arith, s .pre, behind k, u .put6 .ensures .behind)))
 
 same-length : tie.Need-same-length
-same-length c = emitted-same (emitted-more (emitted-more (emitted-more (emitted-more (emitted-more (emitted-more (c .before .before .before .before .before .before .before .before .before .before .before .before .before .before .before .before .before .before .before .before .before .before .before .before .before .before .before .before .before .before .before .before .before .before .before .before .before .before .put .ensures) (c .before .before .before .before .before .before .before .before .before .before .before .before .before .before .before .before .before .before .before .before .before .before .before .before .before .before .before .before .before .before .before .before .before .put2 .ensures)) (c .before .before .before .before .before .before .before .before .before .before .before .before .before .before .before .before .before .before .before .before .before .before .before .before .before .before .before .before .put3 .ensures)) (c .before .before .before .before .before .before .before .before .before .before .before .before .before .before .before .before .before .before .before .before .before .before .before .put4 .ensures)) (c .before .before .before .before .before .before .before .before .before .before .before .before .before .before .before .before .before .before .put5 .ensures)) (c .before .before .before .before .before .before .before .put6 .ensures)) (c .before .before .put-digits .ensures))
+same-length c = search needs
 
 returns-2 : tie.Need-returns-2
 returns-2 c =
-    let s = c .before .before .before .before .before .before .before .before .before .before .before .before .before .before .before .before .before .before .before .before .before .before .before .before .before .before .before .before .before .before .before .before .before .before .before .before .before .before .before .before .before .before .before in
-    let v = s .args .value .now in
-    let k = c .before .before .before .before .before .before .before .before .before .before .before .before .before .before in
-    let g = c .before .before .before .before .before .before .before .before .before .before .before .before .before .decode-gt-digits in
-    let e = c .before .before .before .before .before .before .before .before .before .before .answer .given .1 in
-    let r = read v (s .pre .0) (s .pre .1 .0) (k .shared-slice-known7 .given 4 .fits) (ap (λ (a : Counted). record { answer = countedOf a; buffer = g .result .digits }) (sym e) ∙ g .ensures) in
-    title-stored v _ (g .result .digits) r
-    (emitted-more (emitted-more (emitted-more (emitted-more (emitted-more (emitted-more (c .before .before .before .before .before .before .before .before .before .before .before .before .before .before .before .before .before .before .before .before .before .before .before .before .before .before .before .before .before .before .before .before .before .before .before .before .before .before .put .ensures) (c .before .before .before .before .before .before .before .before .before .before .before .before .before .before .before .before .before .before .before .before .before .before .before .before .before .before .before .before .before .before .before .before .before .put2 .ensures)) (c .before .before .before .before .before .before .before .before .before .before .before .before .before .before .before .before .before .before .before .before .before .before .before .before .before .before .before .before .put3 .ensures)) (c .before .before .before .before .before .before .before .before .before .before .before .before .before .before .before .before .before .before .before .before .before .before .before .put4 .ensures)) (c .before .before .before .before .before .before .before .before .before .before .before .before .before .before .before .before .before .before .put5 .ensures)) (c .before .before .before .before .before .before .before .put6 .ensures)) (c .before .before .put-digits .ensures))
-
-same-length-2 : tie.Need-same-length-2
-same-length-2 c = search needs
-
-returns-3 : tie.Need-returns-3
-returns-3 c =
-    let s = c .before .before .before .before .before .before .before .before .before .before .before .before .before .before .before .before .before .before .before .before .before .before .before .before .before .before .before .before .before .before .before .before .before in
-    let v = s .args .value .now in
-    let k = c .before .before .before .before in
-    let g = c .before .before .before .decode-gt-digits in
-    let e = ap (λ (a : Counted). record { answer = countedOf a; buffer = g .result .digits }) (sym (c .enum-told .given .1)) ∙ g .ensures in
-    absurd (digits-never (drop 8 v) (getD v 4 0) (omega (arith, length-drop 8 v, s .pre .1 .0)) (k .shared-slice-known7 .given 4 .fits)
-    (e ∙ ap (λ (w : List ℕ). deliver (readDigits builtIn w (getD v 4 0)) (replicate 255 0)) (whole-part 8 v)))
+    let d = c .before .before in
+    let u = d .before .before .before .before .before in
+    let e = fifth u in
+    let f = fourth e in
+    let g = third f in
+    let h = second g in
+    let i = first h in
+    let m = counted i in
+    let s = start m in
+    title-stored (s .args .value .now) (m .smaller .result) (m .smaller .ensures)
+    (emitted-more (emitted-more (emitted-more (emitted-more (emitted-more (emitted-more (i .put .ensures) (h .put2 .ensures)) (g .put3 .ensures)) (f .put4 .ensures)) (e .put5 .ensures)) (u .put6 .ensures)) (d .put-digits .ensures))
 
 pub put-title-spec : {M : Type 1} → statement M
 put-title-spec =
@@ -167,10 +148,10 @@ put-title-spec =
     (tie.spec
     shared-slice-read-count
     cast-count
-    add-result
     sub-smaller
     mul-smaller
     smaller-requires
+    add-result
     add-result-2
     returns
     put-requires
@@ -182,17 +163,11 @@ put-title-spec =
     put-requires-4
     shared-slice-read-put-4
     put-requires-5
-    sub-decode-gt-digits
-    part-decode-gt-digits-start
-    part-decode-gt-digits-end
-    shared-slice-read-decode-gt-digits
-    decode-gt-digits-requires
-    enum-known-answer
     cast-put
     put-requires-6
+    sub-put-digits
+    part-put-digits-start
+    part-put-digits-end
     put-digits-requires
-    enum-told
     same-length
-    returns-2
-    same-length-2
-    returns-3)
+    returns-2)

@@ -1,26 +1,15 @@
 // The entries for other languages, on slices of octets and numbers (include/sua.h).
-mod account;
-mod flat;
-pub mod line;
-
-use account::read;
+use flat::account::read;
+use flat::list::encode;
 use form::settle;
 use report::store;
 ghost use mathlib.Core.Path.{_≡_};
-ghost use Prim.Native.Nat.{_+_, _*_};
 ghost use Rattle.bcd.specs.Outcome.{deliver};
 ghost use Rattle.bcd.specs.Digits.{builtIn};
 ghost use Rattle.form.specs.Form.{settled};
 ghost use Rattle.report.specs.Report.{entered, enter};
-ghost use Rattle.entry.specs.Account.{account};
-ghost use Rattle.entry.specs.Flat.{encodeFlat};
-
-// A number of two numbers of 16 bits, the high one first.
-fn be32(high: u16, low: u16) -> usize
-    ensures { λ r. ⌜ r ≡ high * 65536 + low ⌝ }
-{
-    (high as usize) * 65536 + (low as usize)
-}
+ghost use Rattle.flat.specs.Account.{account};
+ghost use Rattle.flat.specs.Flat.{encodeFlat};
 
 // Writes the settled form of a message. Reading's refusals, then each address's, 9, 10 in wire order, then 14. The report is
 // written by every call, refused or not, here and below.
@@ -58,5 +47,5 @@ pub extern "C" fn sua_encode(
         entered r (now (out .exit)) (now (report .exit))
         ≡ enter (deliver (encodeFlat class «msg_type» (now (list .entry))) (now (out .entry))) (now (report .entry)) ⌝ }
 {
-    store(flat::encode(class, msg_type, list, out), report)
+    store(encode(class, msg_type, list, out), report)
 }

@@ -3,7 +3,7 @@ use Prim.Native.Nat.{_≤_}
 use mathlib.Core.Path.{sym}
 use lib.ListN.{length}
 use lib.Seq.{length-take-le}
-use Rattle.entry.proofs.Program.{printed-fits}
+use Rattle.flat.proofs.Program.{printed-fits}
 use borrow.Author.Needs.{needs}
 use Rattle.settle.proofs.main.Statement.{statement}
 use Rattle.settle.proofs.main.Tie as tie

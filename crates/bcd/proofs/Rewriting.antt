@@ -1,14 +1,15 @@
 -- Digits that are read and written again: each half octet but 15 is written as it was read.
-use Prim.Native.Nat.{ℕ, zero, suc, _+_, _*_, _/_, _%_, _≤_, _<_, min}
+use Prim.Native.Nat.{ℕ, zero, suc, _+_, _*_, _/_, _%_, _-_, _≤_, _<_, min}
 use mathlib.Core.Path.{_≡_, refl, sym, ap, ap₂, _∙_}
-use mathlib.Core.Logic.{⊎-elim}
+use mathlib.Core.Logic.{_⊎_, inl, inr, ⊎-elim}
 use mathlib.Core.Option.{Option·getD}
 use mathlib.Core.List.{List, [], _∷_, _++_, map}
 use native.Mathlib.Omega.{arith}
-use lib.Dec.{lit<}
+use borrow.Author.Tests.{eq-eqb, ne-eqb}
+use lib.Dec.{lit<, eqb}
 use lib.ListN.{length, getD, take, length-take, length-map, List·getD-eq-default}
 use lib.Seq.{getD-take}
-use Rattle.bcd.specs.Outcome.{Outcome, accepted, refused, after, mapped, All, most}
+use Rattle.bcd.specs.Outcome.{Outcome, accepted, refused, pick, after, mapped, All, most}
 use Rattle.bcd.specs.Digits.{halves, pack, characters, builtIn, digitsIn, readDigits, writeDigits}
 use Rattle.bcd.specs.Steps.{nibble}
 use Rattle.bcd.proofs.Outcomes.{accepted-inj, le-or-lt, bounded-within, bounded-beyond}
@@ -43,6 +44,46 @@ pub known-low : (xs : List ℕ) (i : ℕ) → Known xs (2 * i) → getD xs i 0 %
 known-low xs i k low j h =
     ⊎-elim (λ l. let e : j ≡ 2 * i = omega arith in rw (e, halves-low xs i) low) (λ l. k j l) (le-or-lt (2 * i) j)
 
+-- one of the first m half octets is 15, or more
+pub record Unknown (xs : List ℕ) (m : ℕ) : Type 0 where
+  place : ℕ
+  inside : place < m
+  fifteen : 15 ≤ getD (halves xs) place 0
+
+-- h tells whether one of the first m half octets is 15, as the largest of them does
+abbrev pub Largest : List ℕ → ℕ → ℕ → Type 0
+Largest xs m h = ((h < 15) × Known xs m) ⊎ ((h ≡ 15) × Unknown xs m)
+
+pub largest-none : (xs : List ℕ) → Largest xs 0 0
+largest-none xs = inl (lit< tt, known-none xs)
+
+pub largest-octet :
+    (xs : List ℕ) (i h k r : ℕ)
+    → Largest xs (2 * i) h
+    → getD xs i 0 < 256
+    → k ≡ getD xs i 0 % 16 + (getD xs i 0 / 16 - getD xs i 0 % 16)
+    → r ≡ h + (k - h)
+    → Largest xs (2 * (i + 1)) r
+largest-octet xs i h k r s small e f =
+    ⊎-elim
+    (λ known. ⊎-elim (λ low. inr (omega arith, record { place = 2 * i; inside = omega arith; fifteen = rw (halves-low xs i) low }))
+    (λ low. ⊎-elim
+    (λ high. inr (omega arith, record { place = 2 * i + 1; inside = omega arith; fifteen = rw (halves-high xs i) high }))
+    (λ high. inl (omega arith, known-octet xs i (known .1) low high))
+    (le-or-lt 15 (getD xs i 0 / 16)))
+    (le-or-lt 15 (getD xs i 0 % 16)))
+    (λ found. inr (omega arith, record { place = found .1 .place; inside = omega (arith, found .1 .inside); fifteen = found .1 .fifteen }))
+    s
+
+pub largest-low : (xs : List ℕ) (i h r : ℕ) → Largest xs (2 * i) h → r ≡ h + (getD xs i 0 % 16 - h) → Largest xs (2 * i + 1) r
+largest-low xs i h r s f =
+    ⊎-elim
+    (λ known. ⊎-elim (λ low. inr (omega arith, record { place = 2 * i; inside = omega arith; fifteen = rw (halves-low xs i) low }))
+    (λ low. inl (omega arith, known-low xs i (known .1) low))
+    (le-or-lt 15 (getD xs i 0 % 16)))
+    (λ found. inr (omega arith, record { place = found .1 .place; inside = omega (arith, found .1 .inside); fifteen = found .1 .fifteen }))
+    s
+
 backs : (hs : List ℕ) → ((j : ℕ) → j < length hs → getD hs j 0 < 15) → All (Back builtIn) hs
 backs [] k = tt
 backs (h ∷ hs) k = (back h (k 0 (omega arith)), backs hs (λ j l. k (suc j) (omega arith)))
@@ -68,6 +109,19 @@ module _ (xs : List ℕ) (n : ℕ) (small : n ≤ 255) where
   unknown-refused j l h b =
       some-bad builtIn _ 9 (0x3F ∷ []) few
       (refuses (take n (halves xs)) j (rw (length-take n (halves xs), halves-length xs) (omega arith)) (rw (getD-take n (halves xs) j 0 h) b))
+
+  pub largest-decides :
+      (h : ℕ)
+      → n ≤ 2 * length xs
+      → Largest xs n h
+      → writeDigits builtIn (digitsIn builtIn xs n) ≡ pick (eqb h 15) (refused 9 (0x3F ∷ [])) (accepted (pack (take n (halves xs))))
+  largest-decides h l s =
+      let R = refused 9 (0x3F ∷ []) in
+      let A = accepted (pack (take n (halves xs))) in
+      ⊎-elim
+      (λ known. known-written l (known .1) ∙ sym (ap (λ b. pick b R A) (ne-eqb h 15 (λ e. omega (arith, known .0, e)))))
+      (λ found. unknown-refused (found .1 .place) l (found .1 .inside) (found .1 .fifteen) ∙ sym (ap (λ b. pick b R A) (eq-eqb h 15 (found .0))))
+      s
 
 -- digits read and written again, 12 first
 pub rewrite-beyond : (xs : List ℕ) (count : ℕ) → most < length xs → after (readDigits builtIn xs count) (writeDigits builtIn) ≡ refused 12 (length xs ∷ [])

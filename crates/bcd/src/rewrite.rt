@@ -4,13 +4,21 @@ use crate::error::Counted;
 use crate::error::Refusal;
 ghost use mathlib.Core.Path.{_≡_};
 ghost use mathlib.Core.List.{[], _∷_};
-ghost use Prim.Native.Nat.{_*_, _≤_};
+ghost use Prim.Native.Nat.{_+_, _*_, _-_, _≤_};
 ghost use lib.ListN.{length, take};
 ghost use Rattle.bcd.specs.Outcome.{accepted, refused, pick, after, mapped};
 ghost use Rattle.bcd.specs.Answers.{countedOf};
 ghost use Rattle.bcd.specs.Digits.{halves, pack, builtIn, digitsIn, readDigits, writeDigits};
 
-// Whether one of the first n half octets is 15, which reads as `?` and is never written.
+// The larger of two half octets.
+fn larger(a: u8, b: u8) -> u8
+    ensures { λ r. ⌜ r ≡ a + (b - a) ⌝ }
+{
+    if a < b { b } else { a }
+}
+
+// Whether one of the first n half octets is 15, which reads as `?` and is never written. The largest is kept, so that the loop
+// has no branch on an octet.
 fn unknown(bytes: &[u8], n: usize) -> bool
     requires { ⌜ n ≤ 2 * length (now bytes) ⌝ }
     requires { ⌜ n ≤ 255 ⌝ }
@@ -19,24 +27,17 @@ fn unknown(bytes: &[u8], n: usize) -> bool
         ≡ pick r (refused 9 (0x3F ∷ [])) (accepted (pack (take n (halves (now (bytes .entry)))))) ⌝ }
 {
     let whole = n / 2;
+    let mut most = 0;
     let mut i = 0;
     while i < whole {
         let byte = bytes[i];
-        if byte % 16 == 15 {
-            return true;
-        }
-        if byte / 16 == 15 {
-            return true;
-        }
+        most = larger(most, larger(byte % 16, byte / 16));
         i += 1;
     }
     if n % 2 == 0 {
-        return false;
+        return most == 15;
     }
-    if bytes[whole] % 16 == 15 {
-        return true;
-    }
-    false
+    larger(most, bytes[whole] % 16) == 15
 }
 
 // How many octets digits take when they are read and written again. 12, 9.

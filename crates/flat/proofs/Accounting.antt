@@ -31,7 +31,7 @@ use Rattle.flat.specs.Steps.Emitting.{emit, Emitted, Tried, othersFields
 use Rattle.flat.proofs.Emission.{emitted-more}
 use Rattle.address.proofs.Keeping.{value-at, places-behind, placeOf}
 use Rattle.address.proofs.Others.{count-known, walk-few}
-use Rattle.flat.proofs.OtherPlaces.{listed, listed-length}
+use Rattle.flat.proofs.OtherPlaces.{listed, listed-length, octets-length}
 
 -- what the parts of an address take
 pub title-small : (v : List ℕ) (k : Kept) → Octets v → HeldIn v 8 k → length (marked titleFields (keptTitle builtIn v k)) ≤ 262
@@ -96,6 +96,27 @@ parts-small base {v} {s} r =
     let O = othersFields base v s in
     let walked : listed base (placesIn (places v 4)) ≡ listed base (r .known .places) = ap (λ o. listed base (placesIn o)) (r .known .walked) in
     omega (arith, title-small v (s .title) (r .known .octets) (k .title), code-small v (s .code), sub-small v (s .ssn), length-append T (C ++ (S ++ O)), length-append C (S ++ O), length-append S O, ap length walked, listed-length base (r .known .places), walk-few (r .known))
+
+-- the fields of the others: ten octets for each, and their number alone where there are none
+pub others-length : (base : ℕ) {v : List ℕ} {s : Parts} (r : Read v s) → length (othersFields base v s) ≡ 4 + 10 * s .«other_count»
+others-length base {v} {s} r =
+    let ps = r .known .places in
+    let walked : listed base (placesIn (places v 4)) ≡ listed base ps = ap (λ o. listed base (placesIn o)) (r .known .walked) in
+    omega (arith, ap length walked, octets-length (map (moved base) (otherPlaces ps)), length-map (otherPlaces ps) (moved base), count-known (r .known))
+
+empty : (l : List ℕ) → length l ≡ 0 → l ≡ []
+empty [] e = refl
+empty (x ∷ l) e = absurd (omega arith)
+
+pub others-none :
+    (base : ℕ) {v : List ℕ} {s : Parts} (r : Read v s) {d last : List ℕ} {at end : ℕ}
+    → s .«other_count» ≡ 0
+    → Emitted d at (four (s .«other_count»)) end last
+    → Emitted d at (othersFields base v s) end last
+others-none base {v} {s} r {d} {last} {at} {end} e x =
+    let L = listed base (placesIn (places v 4)) in
+    let none : L ≡ [] = empty L (omega (arith, others-length base r)) in
+    subst (λ (os : List ℕ). Emitted d at os end last) (sym (ap (λ (l : List ℕ). four (s .«other_count») ++ l) none ∙ append-nil (four (s .«other_count»)))) x
 
 -- the account of an address value that was read, and of one that was not
 pub account-read : (base : ℕ) {v : List ℕ} {s : Parts} (r : Read v s) → addressAccount builtIn base v ≡ accepted (partsFields base v s)

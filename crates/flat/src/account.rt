@@ -180,8 +180,8 @@ fn other(place: Place, base: usize, at: usize, out: &mut [u8]) -> usize
     at
 }
 
-// Stores the number of the other sub-parameters, and their places.
-fn others(value: &[u8], parts: Parts, base: usize, at: usize, out: &mut [u8]) -> usize
+// Stores the number of the other sub-parameters, and their places, by a second walk.
+fn list_others(value: &[u8], parts: Parts, base: usize, at: usize, out: &mut [u8]) -> usize
     requires { ⌜ Read (now value) parts ⌝ }
     requires { ⌜ base + length (now value) ≤ most ⌝ }
     requires { ⌜ at ≤ 2 ^ 56 ⌝ }
@@ -206,6 +206,23 @@ fn others(value: &[u8], parts: Parts, base: usize, at: usize, out: &mut [u8]) ->
         }
     }
     to
+}
+
+// Stores the number of the other sub-parameters, and their places. It walks only where there are others to store.
+fn others(value: &[u8], parts: Parts, base: usize, at: usize, out: &mut [u8]) -> usize
+    requires { ⌜ Read (now value) parts ⌝ }
+    requires { ⌜ base + length (now value) ≤ most ⌝ }
+    requires { ⌜ at ≤ 2 ^ 56 ⌝ }
+    ensures { λ r. ⌜ Emitted (now (out .entry)) at (othersFields base (now (value .entry)) parts) r (now (out .exit)) ⌝ }
+{
+    let count = parts.other_count;
+    if out.len() <= at {
+        return at + 4 + 10 * count;
+    }
+    if count == 0 {
+        return put_four(count, at, out);
+    }
+    list_others(value, parts, base, at, out)
 }
 
 // Stores the fields of an address value that was read.

@@ -1,4 +1,4 @@
-//! The calls of crates/replay: how a line is written, and what the Rust answers to it.
+//! The calls of crates/replay (docs/CALLS.md): how a line is written, and what the Rust answers to it.
 
 use crate::oracle::*;
 use std::fmt::Write;

@@ -4,10 +4,10 @@
  * A lent slice is a pointer and the number of its elements. The pointer is never null, and slices of one call do not
  * overlap. Each entry is defined for every contents and every length of its slices.
  *
- * Every entry answers 0 where the input was accepted, else the refusal's number, and stores four numbers in the report,
- * as many of them as it has places:
+ * Every entry answers 0 where it accepted what it was lent, else the refusal's number, and stores four numbers in the
+ * report, as many of them as it has places:
  *
- *     accepted    0, octets written, 0, 0
+ *     accepted    0, octets written (by sua_tally: the row that gained, from 0), 0, 0
  *     refused     number, and its values with zeros behind them
  *
  *      1  too short (expected, actual)             9  no digit (octet)
@@ -15,12 +15,12 @@
  *      4  unknown pair (class, type)              12  over 1,048,576 octets (length)
  *      5  parameter length below 4 (tag, length)  14  output too small (length needed)
  *      6  parameter beyond the octets, or point   15  a record of the list is not finished
- *         code or SSN too short (tag, expected,
- *         actual)
+ *         code or SSN too short (tag, expected,  16  a member list or rows outside the rules of
+ *         actual)                                    sua_tally
  *      8  routing indicator above 4 (indicator)
  *
- * A refusal leaves the output as it was; nothing is written past the octets that are answered. The report alone is written
- * by every call, refused or not.
+ * A refusal leaves the output, or the rows, as they were; nothing is written past the octets that are answered. The report
+ * alone is written by every call, refused or not.
  */
 #ifndef SUA_H
 #define SUA_H
@@ -80,6 +80,36 @@ uint64_t sua_encode(uint8_t message_class, uint8_t message_type,
                     const uint8_t *list, size_t list_len,
                     uint8_t *out, size_t out_len,
                     uint64_t *report, size_t report_len);
+
+/*
+ * Tallies one message of a day by member: one row gains one message, and octets.
+ *
+ *     digits      the members' prefixes, as characters, one after the other
+ *     lengths     the length of each prefix
+ *     messages    the messages of each row: a row for each member, as they stand, then unplaced, then refused
+ *     octets      the octets of each row, likewise; the two slices do not overlap
+ *
+ * A message that sua_settle refuses, 14 apart, is tallied too: it adds itself and no octets to the refused row. Every other
+ * adds itself and the octets of its first Data parameter (0x010B), 0 if it has none. It goes to the member with the longest
+ * prefix that the title's digits begin with, where it is a CLDT (class 7, type 1) whose first destination address (0x0103)
+ * has a title, whatever the include bits say; else, or where no prefix fits, to the unplaced row.
+ *
+ * Rows that are all 0 start a day. The rows of a day are the same in every order of its messages, and are the sums of the
+ * rows of its parts.
+ *
+ * Refused as 16, before the message is read, with every row as it was, unless all of these hold:
+ *
+ *     1 to 64 lengths, each 1 to 15, that add up to digits_len; each character 0 to 9; no prefix twice
+ *     two places more than lengths_len in messages, and in octets
+ *     under 4,294,967,295 messages in all rows together
+ *     in each row at most 65,531 octets for each of its messages
+ */
+uint64_t sua_tally(const uint8_t *digits, size_t digits_len,
+                   const uint8_t *lengths, size_t lengths_len,
+                   const uint8_t *input, size_t input_len,
+                   uint64_t *messages, size_t messages_len,
+                   uint64_t *octets, size_t octets_len,
+                   uint64_t *report, size_t report_len);
 
 #ifdef __cplusplus
 }

@@ -1,6 +1,6 @@
 //! The entries of include/sua.h. Each function answers the report of its entry.
 
-/// An entry's number (0 where it accepted) and its values, or the octets written.
+/// An entry's number (0 where it accepted) and its values, or the octets written or row gained.
 pub(crate) type Report = [u64; 4];
 
 extern "C" {
@@ -27,6 +27,20 @@ extern "C" {
         list_len: usize,
         out: *mut u8,
         out_len: usize,
+        report: *mut u64,
+        report_len: usize,
+    ) -> u64;
+    fn sua_tally(
+        digits: *const u8,
+        digits_len: usize,
+        lengths: *const u8,
+        lengths_len: usize,
+        input: *const u8,
+        input_len: usize,
+        messages: *mut u64,
+        messages_len: usize,
+        octets: *mut u64,
+        octets_len: usize,
         report: *mut u64,
         report_len: usize,
     ) -> u64;
@@ -77,6 +91,35 @@ pub(crate) fn encode(class: u8, msg_type: u8, list: &[u8], out: &mut [u8]) -> Re
             list.len(),
             out.as_mut_ptr(),
             out.len(),
+            report.as_mut_ptr(),
+            report.len(),
+        )
+    };
+    report
+}
+
+pub(crate) fn tally(
+    digits: &[u8],
+    lengths: &[u8],
+    input: &[u8],
+    messages: &mut [u64],
+    octets: &mut [u64],
+) -> Report {
+    let mut report = [0; 4];
+    // SAFETY: as in `settle`, with six slices; the entry writes inside `messages`, `octets` and
+    // `report` only.
+    unsafe {
+        sua_tally(
+            digits.as_ptr(),
+            digits.len(),
+            lengths.as_ptr(),
+            lengths.len(),
+            input.as_ptr(),
+            input.len(),
+            messages.as_mut_ptr(),
+            messages.len(),
+            octets.as_mut_ptr(),
+            octets.len(),
             report.as_mut_ptr(),
             report.len(),
         )

@@ -1,4 +1,5 @@
-//! SUA (RFC 3868) messages, read, written and settled by the proved codec of Navrost (libsua.a).
+//! SUA (RFC 3868) messages, read, written, settled and tallied by the proved codec of Navrost
+//! (libsua.a).
 //!
 //! The settled form of a message depends on what it means and on nothing else: the copies of one
 //! text that two gateways sent have the same form, octet for octet.
@@ -47,12 +48,14 @@ mod account;
 #[allow(unsafe_code)]
 mod entries;
 mod refusal;
+mod tally;
 
 pub use account::{
     Account, Address, GlobalTitle, Other, Others, Parameter, Parameters, Reading,
     DESTINATION_ADDRESS, SOURCE_ADDRESS,
 };
 pub use refusal::{Refusal, Values};
+pub use tally::{tally, Members, Row, Tally};
 
 use refusal::answer;
 

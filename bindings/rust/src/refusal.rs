@@ -70,10 +70,12 @@ pub enum Refusal {
     OutputTooSmall(u64),
     /// 15: a record of the list is not finished.
     OutsideSlice,
+    /// 16: a member list or rows outside the rules of [`tally`](crate::tally()).
+    InvalidTally,
 }
 
 impl Refusal {
-    /// The refusal's number, 1 to 15.
+    /// The refusal's number, 1 to 16.
     pub fn number(&self) -> u8 {
         self.numbered().0
     }
@@ -108,11 +110,12 @@ impl Refusal {
             Refusal::TableTooSmall(count) => (13, Values::one(count)),
             Refusal::OutputTooSmall(length) => (14, Values::one(length)),
             Refusal::OutsideSlice => (15, Values::none()),
+            Refusal::InvalidTally => (16, Values::none()),
         }
     }
 
     /// The refusal of a report. Each value has the width of its field, so that no cast cuts one
-    /// short. A number above 15 does not come; it would be taken as 15.
+    /// short. A number above 16 does not come; it would be taken as 16.
     fn of(report: Report) -> Refusal {
         let [number, a, b, c] = report;
         match number {
@@ -146,20 +149,22 @@ impl Refusal {
             12 => Refusal::TooManyOctets(a),
             13 => Refusal::TableTooSmall(a),
             14 => Refusal::OutputTooSmall(a),
+            15 => Refusal::OutsideSlice,
             _ => {
-                debug_assert_eq!(number, 15, "no refusal has this number");
-                Refusal::OutsideSlice
+                debug_assert_eq!(number, 16, "no refusal has this number");
+                Refusal::InvalidTally
             }
         }
     }
 }
 
-/// How many octets of an output of this length were written, or why none were.
-pub(crate) fn answer(report: Report, room: usize) -> Result<usize, Refusal> {
-    let [number, written, _, _] = report;
+/// How many octets of an output of this length were written, or why none were; and likewise the
+/// row that gained, which is at most the last.
+pub(crate) fn answer(report: Report, most: usize) -> Result<usize, Refusal> {
+    let [number, count, _, _] = report;
     if number == 0 {
-        // An entry writes inside its output, so the count is no more than its length.
-        Ok(usize::try_from(written).map_or(room, |n| n.min(room)))
+        // An entry writes inside what it is lent, so the count is no more than this.
+        Ok(usize::try_from(count).map_or(most, |n| n.min(most)))
     } else {
         Err(Refusal::of(report))
     }
@@ -209,6 +214,7 @@ impl fmt::Display for Refusal {
             Refusal::TableTooSmall(count) => write!(f, "the table needs room for {}", count),
             Refusal::OutputTooSmall(length) => write!(f, "the output needs {} octets", length),
             Refusal::OutsideSlice => write!(f, "a record of the list is not finished"),
+            Refusal::InvalidTally => write!(f, "the member list or the rows break the rules"),
         }
     }
 }
@@ -264,7 +270,7 @@ impl Deref for Values {
 mod tests {
     use super::*;
 
-    const REPORTS: [(Report, usize); 15] = [
+    const REPORTS: [(Report, usize); 16] = [
         ([1, 8, 7, 0], 2),
         ([2, 255, 0, 0], 1),
         ([3, 255, 0, 0], 1),
@@ -280,6 +286,7 @@ mod tests {
         ([13, u64::MAX, 0, 0], 1),
         ([14, u64::MAX, 0, 0], 1),
         ([15, 0, 0, 0], 0),
+        ([16, 0, 0, 0], 0),
     ];
 
     #[test]

@@ -186,7 +186,7 @@ abbrev pub placeOf : Kept → Place
 placeOf k = record { tag = 0; start = k .start; length = k .length }
 
 -- The later of three.
-later-later : {X : Type 0} (a b c : Option X) → later a (later b c) ≡ later (later a b) c
+pub later-later : {X : Type 0} (a b c : Option X) → later a (later b c) ≡ later (later a b) c
 later-later none b c = refl
 later-later (some x) none c = refl
 later-later (some x) (some y) none = refl

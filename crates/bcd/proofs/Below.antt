@@ -10,7 +10,8 @@ abbrev pub allBelow : ℕ → (ℕ → Bool) → Bool
 allBelow zero f = true
 allBelow (suc n) f = f n && allBelow n f
 
-both : (a b : Bool) → a && b ≡ true → (a ≡ true) × (b ≡ true)
+-- Both of two tests pass.
+pub both : (a b : Bool) → a && b ≡ true → (a ≡ true) × (b ≡ true)
 both true b e = (refl, e)
 both false b e = let z : _≡_ {A = ℕ} 0 1 = cc in absurd (omega arith)
 

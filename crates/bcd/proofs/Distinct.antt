@@ -29,6 +29,8 @@ kinds =
     ∷ (λ vs. R.TooManyOctets (getD vs 0 0))
     ∷ (λ vs. R.TableTooSmall (getD vs 0 0))
     ∷ (λ vs. R.OutputTooSmall (getD vs 0 0))
+    ∷ (λ vs. R.OutsideSlice)
+    ∷ (λ vs. R.InvalidTally)
     ∷ []
 
 abbrev named : ℕ → List ℕ → Refusal
@@ -50,6 +52,7 @@ named-back (R.TooManyOctets n) = refl
 named-back (R.TableTooSmall n) = refl
 named-back (R.OutputTooSmall n) = refl
 named-back R.OutsideSlice = refl
+named-back R.InvalidTally = refl
 
 pub refusals-distinct : {A : Type 0} (r s : Refusal) → refusalOf {A = A} r ≡ refusalOf s → r ≡ s
 refusals-distinct {A} r s e =

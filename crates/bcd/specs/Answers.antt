@@ -1,4 +1,5 @@
--- Document 01's number and values for each case of the code's answers ('Choosing the form by place', last paragraph).
+-- The number and the values of each case of the code's answers: document 01's ('Choosing the form by place', last paragraph)
+-- up to 15, then document 02's.
 use Prim.Native.Nat.{ℕ}
 use mathlib.Core.List.{List, [], _∷_}
 use Rattle.bcd.specs.Outcome.{Outcome, accepted, refused}
@@ -7,7 +8,7 @@ use Rattle.bcd.specs.declared.error.Refusal.the-variants as R
 use Rattle.bcd.specs.declared.error.Counted.{Counted}
 use Rattle.bcd.specs.declared.error.Counted.the-variants as C
 
--- Each refusal's number, and the values returned with it in document 01's order.
+-- Each refusal's number, and the values returned with it in the documents' order.
 abbrev pub numbered : Refusal → ℕ × List ℕ
 numbered (R.TooShort expected actual) = (1, expected ∷ actual ∷ [])
 numbered (R.InvalidVersion octet) = (2, octet ∷ [])
@@ -24,6 +25,7 @@ numbered (R.TooManyOctets length) = (12, length ∷ [])
 numbered (R.TableTooSmall count) = (13, count ∷ [])
 numbered (R.OutputTooSmall length) = (14, length ∷ [])
 numbered R.OutsideSlice = (15, [])
+numbered R.InvalidTally = (16, [])
 
 abbrev pub refusalOf : {A : Type 0} → Refusal → Outcome A
 refusalOf r = refused (numbered r .0) (numbered r .1)

@@ -1,4 +1,4 @@
-// Why a call refuses, and the answer that holds it. Document 01 numbers the refusals in this order, from 1; the first
+// Why a call refuses, and the answer that holds it. Documents 01 and 02 number the refusals in this order, from 1; the first
 // nine are those of error.rs.
 
 pub enum Refusal {
@@ -48,6 +48,8 @@ pub enum Refusal {
     OutputTooSmall(usize),
     // A record, or a count of records, reaches outside its lent slice.
     OutsideSlice,
+    // A member list, or the rows of a tally, that cannot be taken.
+    InvalidTally,
 }
 
 // How many octets were written, or records stored; or why none were.

@@ -3,6 +3,7 @@ use flat::account::read;
 use flat::list::encode;
 use form::settle;
 use report::store;
+use tally::tally;
 ghost use mathlib.Core.Path.{_≡_};
 ghost use Rattle.bcd.specs.Outcome.{deliver};
 ghost use Rattle.bcd.specs.Digits.{builtIn};
@@ -10,6 +11,9 @@ ghost use Rattle.form.specs.Form.{settled};
 ghost use Rattle.report.specs.Report.{entered, enter};
 ghost use Rattle.flat.specs.Account.{account};
 ghost use Rattle.flat.specs.Flat.{encodeFlat};
+ghost use Rattle.tally.specs.Rows.{rows};
+ghost use Rattle.tally.specs.Tally.{tally};
+ghost use Rattle.entry.specs.Entries.{counted, count};
 
 // Writes the settled form of a message. Reading's refusals, then each address's, 9, 10 in wire order, then 14. The report is
 // written by every call, refused or not, here and below.
@@ -48,4 +52,22 @@ pub extern "C" fn sua_encode(
         ≡ enter (deliver (encodeFlat class «msg_type» (now (list .entry))) (now (out .entry))) (now (report .entry)) ⌝ }
 {
     store(encode(class, msg_type, list, out), report)
+}
+
+// Tallies one message under a member list, and reports the row that gained. 16, before the message is read.
+#[no_mangle]
+pub extern "C" fn sua_tally(
+    digits: &[u8],
+    lengths: &[u8],
+    input: &[u8],
+    messages: &mut [u64],
+    octets: &mut [u64],
+    report: &mut [u64],
+) -> u64
+    ensures { λ r. ⌜
+        counted r (rows (now (messages .exit)) (now (octets .exit))) (now (report .exit))
+        ≡ count (tally (now (digits .entry)) (now (lengths .entry)) (now (input .entry))
+        (rows (now (messages .entry)) (now (octets .entry)))) (now (report .entry)) ⌝ }
+{
+    store(tally(digits, lengths, input, messages, octets), report)
 }

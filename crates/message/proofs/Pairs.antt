@@ -10,13 +10,10 @@ use lib.Dec.{leb, ltb, eqb, lit≤}
 use borrow.Author.Tests.{eqb-true, eq-eqb, ne-eqb, leb-true, ltb-true}
 use Rattle.bcd.specs.Outcome.{Outcome, accepted, refused, pick}
 use Rattle.bcd.proofs.Outcomes.{accepted-inj, never, le-or-lt}
+use Rattle.bcd.proofs.Below.{both}
 use Rattle.message.specs.declared.types.MessageType.{MessageType}
 use Rattle.message.specs.declared.types.MessageType.the-variants as T
 use Rattle.message.specs.Types.{first, classOctet, messageClasses, fromOctet, classOf, typeOf, messageTypes, fromClassType, known, sumBelow, knownPairs}
-
-both : (a b : Bool) → a && b ≡ true → (a ≡ true) × (b ≡ true)
-both true b e = (refl, e)
-both false b e = let z : _≡_ {A = ℕ} 0 1 = cc in absurd (omega arith)
 
 off : (t : Bool) → (t ≡ true → ⊥) → t ≡ false
 off true h = absurd (h refl)

@@ -67,7 +67,7 @@ fn values(which: u64) -> usize {
     match which {
         1 | 4 | 5 | 10 => 2,
         6 => 3,
-        15 => 0,
+        15 | 16 => 0,
         _ => 1,
     }
 }

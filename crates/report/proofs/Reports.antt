@@ -31,6 +31,7 @@ number-small (R.TooManyOctets length) = omega arith
 number-small (R.TableTooSmall count) = omega arith
 number-small (R.OutputTooSmall length) = omega arith
 number-small R.OutsideSlice = omega arith
+number-small R.InvalidTally = omega arith
 
 pub numbers-length : (o : Outcome ℕ) → length (numbers o) ≡ 4
 numbers-length (accepted n) = refl

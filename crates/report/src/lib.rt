@@ -31,6 +31,7 @@ fn refusal_numbers(r: Refusal) -> [u64; 4]
         Refusal::TableTooSmall(count) => [13, count as u64, 0, 0],
         Refusal::OutputTooSmall(length) => [14, length as u64, 0, 0],
         Refusal::OutsideSlice => [15, 0, 0, 0],
+        Refusal::InvalidTally => [16, 0, 0, 0],
     }
 }
 

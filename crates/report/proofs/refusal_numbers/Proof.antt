@@ -88,6 +88,9 @@ enum-known-r-14 c = search needs
 enum-told : tie.Need-enum-told
 enum-told c = search needs
 
+enum-told-2 : tie.Need-enum-told-2
+enum-told-2 c = search needs
+
 returns : tie.Need-returns
 returns c =
     listed (c .before .r .given .1)
@@ -148,6 +151,10 @@ returns-15 : tie.Need-returns-15
 returns-15 c =
     listed (c .enum-told .given .1)
 
+returns-16 : tie.Need-returns-16
+returns-16 c =
+    listed (c .enum-told2 .given .1)
+
 pub refusal-numbers-spec : {M : Type 1} → statement M
 refusal-numbers-spec =
     tie.close
@@ -178,6 +185,7 @@ refusal-numbers-spec =
     enum-known-r-13
     enum-known-r-14
     enum-told
+    enum-told-2
     returns
     returns-2
     returns-3
@@ -192,4 +200,5 @@ refusal-numbers-spec =
     returns-12
     returns-13
     returns-14
-    returns-15)
+    returns-15
+    returns-16)

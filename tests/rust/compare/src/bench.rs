@@ -1,9 +1,11 @@
-//! Times of the Rust and of the port in one process: settle, read with addresses, and encode.
+//! Times of the Rust and of the port in one process: settle, read with addresses, and encode; and of the port's tally beside
+//! its settle.
 
 use crate::archive::Entry;
 use crate::messages::parameter;
 use crate::oracle::form;
 use crate::random::Random;
+use crate::tally::{call, List, Rows};
 use std::hint::black_box;
 use std::time::Instant;
 use sua::address::SuaAddress;
@@ -106,5 +108,32 @@ pub fn bench() -> bool {
         let encoded = times(|| message.encode().len(), || Entry::Encode(7, 1).call(&list, &mut out, &mut report) as usize);
         row(case, "encode", octets, encoded);
     }
+    tallied(&cases[0].1);
     true
+}
+
+/// Prints the times of tally for the CLDT under several member lists, beside settle. A list of no members is refused at once, so
+/// its row is the call alone. In the others the last member is that of the CLDT, and all begin alike.
+fn tallied(input: &[u8]) {
+    let whole = b"447712345678902".to_vec();
+    let lists: [(&str, Vec<Vec<u8>>); 5] = [
+        ("none", vec![]),
+        ("1 of 5 digits", vec![whole[..5].to_vec()]),
+        ("1 of 15 digits", vec![whole]),
+        ("64 of 5 digits", (8..72).map(|n| format!("447{n:02}").into_bytes()).collect()),
+        ("64 of 15 digits", (3..67).map(|n| format!("4477123456789{:02}", n % 64).into_bytes()).collect()),
+    ];
+    println!("\n| members, for the CLDT | settle, ns | tally, ns | ratio |");
+    println!("|---|---:|---:|---:|");
+    for (case, prefixes) in &lists {
+        let list = List::of(prefixes);
+        let Rows { mut messages, mut octets } = Rows::none(prefixes.len() + 2);
+        let (mut out, mut report, mut other) = (vec![0u8; input.len()], [0u64; 4], [0u64; 4]);
+        let [settled, tallied] = times(
+            || Entry::Settle.call(input, &mut out, &mut report) as usize,
+            || call(&list, input, &mut messages, &mut octets, &mut other) as usize,
+        );
+        assert_eq!(other, if prefixes.is_empty() { [16, 0, 0, 0] } else { [0, prefixes.len() as u64 - 1, 0, 0] });
+        println!("| {case} | {settled:.0} | {tallied:.0} | {:.1} |", tallied / settled);
+    }
 }

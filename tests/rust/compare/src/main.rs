@@ -10,6 +10,7 @@ mod random;
 mod record;
 mod replay;
 mod rows;
+mod tally;
 mod typed;
 
 fn main() {
@@ -18,12 +19,13 @@ fn main() {
     let right = match words.get(1).map(String::as_str) {
         Some("archive") => archive::compare(number(2), number(3)),
         Some("typed") => typed::compare(number(2), number(3)),
+        Some("tally") => tally::compare(number(2), number(3)),
         Some("calls") => replay::compare(number(2), number(3)),
         Some("rows") => rows::compare(&words[2]),
         Some("record") => record::record(&words[2]),
         Some("bench") => bench::bench(),
         _ => {
-            eprintln!("compare archive|typed|calls COUNT SEED, rows FILE, record FOLDER, or bench");
+            eprintln!("compare archive|typed|tally|calls COUNT SEED, rows FILE, record FOLDER, or bench");
             false
         }
     };

@@ -175,7 +175,7 @@ pub fn message(r: &mut Random) -> Vec<u8> {
 }
 
 /// Breaks a message in one of the ways that are refused, or in none.
-fn spoil(r: &mut Random, out: &mut Vec<u8>) {
+pub fn spoil(r: &mut Random, out: &mut Vec<u8>) {
     match r.below(12) {
         0 => out.truncate(r.below(out.len() + 1)),
         1 => out[0] = r.octet(),

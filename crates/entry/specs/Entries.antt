@@ -6,14 +6,14 @@ use Rattle.report.specs.Report.{numbers, reported}
 use Rattle.tally.specs.Rows.{Rows}
 use Rattle.tally.specs.Tally.{Tallied}
 
-pub record Counted : Type 0 where
+pub record EnteredRows : Type 0 where
   pub number : ℕ
   pub rows : Rows
   pub report : List ℕ
 
-abbrev pub counted : (number : ℕ) → Rows → (report : List ℕ) → Counted
-counted number rows report = record { number = number; rows = rows; report = report }
+abbrev pub enteredRows : (number : ℕ) → Rows → (report : List ℕ) → EnteredRows
+enteredRows number rows report = record { number = number; rows = rows; report = report }
 
 -- The report gets the answer's numbers, as of every entry; the first number is returned.
-abbrev pub count : Tallied → (report : List ℕ) → Counted
-count t held = counted (getD (numbers (t .answer)) 0 0) (t .rows) (reported (t .answer) held)
+abbrev pub enterRows : Tallied → (report : List ℕ) → EnteredRows
+enterRows t held = enteredRows (getD (numbers (t .answer)) 0 0) (t .rows) (reported (t .answer) held)

@@ -13,7 +13,7 @@ ghost use Rattle.flat.specs.Account.{account};
 ghost use Rattle.flat.specs.Flat.{encodeFlat};
 ghost use Rattle.tally.specs.Rows.{rows};
 ghost use Rattle.tally.specs.Tally.{tally};
-ghost use Rattle.entry.specs.Entries.{counted, count};
+ghost use Rattle.entry.specs.Entries.{enteredRows, enterRows};
 
 // Writes the settled form of a message. Reading's refusals, then each address's, 9, 10 in wire order, then 14. The report is
 // written by every call, refused or not, here and below.
@@ -65,8 +65,8 @@ pub extern "C" fn sua_tally(
     report: &mut [u64],
 ) -> u64
     ensures { λ r. ⌜
-        counted r (rows (now (messages .exit)) (now (octets .exit))) (now (report .exit))
-        ≡ count (tally (now (digits .entry)) (now (lengths .entry)) (now (input .entry))
+        enteredRows r (rows (now (messages .exit)) (now (octets .exit))) (now (report .exit))
+        ≡ enterRows (tally (now (digits .entry)) (now (lengths .entry)) (now (input .entry))
         (rows (now (messages .entry)) (now (octets .entry)))) (now (report .entry)) ⌝ }
 {
     store(tally(digits, lengths, input, messages, octets), report)

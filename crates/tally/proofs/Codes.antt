@@ -3,20 +3,20 @@ use Prim.Native.Nat.{ℕ, _+_, _-_, _*_, _^_, _≤_, _<_}
 use mathlib.Core.Path.{_≡_, refl, sym, ap, ap₂, _∙_}
 use mathlib.Core.Logic.{⊎-elim}
 use mathlib.Core.Bool.{Bool, true, false, not, _&&_, _||_, and-false, or-false, or-assoc}
-use mathlib.Core.List.{List, [], _∷_, _++_, map-append}
+use mathlib.Core.List.{List, [], _∷_, _++_}
 use native.Mathlib.Omega.{arith}
 use native.Mathlib.Numerals.{add-one}
 use native.Mathlib.Nat.{pow-suc, pow-le-pow-right}
 use lib.Dec.{lit<, eqb}
-use lib.ListN.{length, getD, take, drop, take-append-drop}
+use lib.ListN.{length, getD, take, drop, length-map, take-append-drop}
 use lib.Seq.{take-suc, take-take}
 use borrow.Author.Tests.{eq-eqb, eqb-true}
 use Rattle.bcd.proofs.Outcomes.{le-or-lt}
 use Rattle.bcd.proofs.Halves.{Nibbles}
 use Rattle.bcd.proofs.Below.{both}
 use Rattle.tally.specs.Members.{between, every, same, distinct}
-use Rattle.tally.specs.Steps.Codes.{codeFrom, code, values, codes, among, unlike}
-use Rattle.tally.proofs.Lists.{agree, between-inv, every-at}
+use Rattle.tally.specs.Steps.Codes.{codeFrom, code, values, codes, among, unlike, Kept}
+use Rattle.tally.proofs.Lists.{agree, between-inv}
 use Rattle.tally.proofs.Beginning.{same-true, same-self}
 
 -- the number of half octets goes on from that of the first ones
@@ -54,13 +54,6 @@ code-inj hs ks a b e =
     (le-or-lt (length ks) (length hs)))
     (λ m. absurd (omega (arith, longer 1 1 ks hs b (lit< tt) m)))
     (le-or-lt (length hs) (length ks))
-
--- the same test, on the numbers and on the lists
-pub code-same : (hs ks : List ℕ) → Nibbles hs → Nibbles ks → eqb (code hs) (code ks) ≡ same hs ks
-code-same hs ks a b =
-    agree (eqb (code hs) (code ks)) (same hs ks)
-    (λ e. let s = code-inj hs ks a b (eqb-true (code hs) (code ks) e) in ap (same hs) (sym s) ∙ same-self hs)
-    (λ e. eq-eqb (code hs) (code ks) (ap code (same-true hs ks e)))
 
 -- decimal characters and their half octets
 pub values-nibbles : (p : List ℕ) → every (between 0x30 0x39) p ≡ true → Nibbles (values p)
@@ -115,31 +108,27 @@ codes-distinct (p ∷ ps) e =
         not-or (eqb (code (values q)) (code (values p))) (among (code (values p)) (codes qs))
         ∙ ap₂ _&&_ (ap not (prefix-same p q a (t .0))) (none p qs a (t .1))
 
--- the number of one digit more, and room for it in 64 bits
+-- the number of the first i half octets, which leaves room in 64 bits for one more
 abbrev pub Coded : List ℕ → ℕ → ℕ → Type 0
-Coded p i n = (n ≡ code (values (take i p))) × (n < 2 * 16 ^ i)
+Coded hs i n = (n ≡ code (take i hs)) × (n < 2 * 16 ^ i)
 
-pub coded-none : (p : List ℕ) → Coded p 0 1
+pub coded-none : (hs : List ℕ) → Coded hs 0 1
 unfolding code
-coded-none p = (refl, lit< tt)
+coded-none hs = (refl, lit< tt)
 
-pub coded-next :
-    (p : List ℕ) (i n : ℕ)
-    → every (between 0x30 0x39) p ≡ true
-    → i < length p
-    → Coded p i n
-    → Coded p (i + 1) (n * 16 + (getD p i 0 - 0x30))
+pub coded-next : (hs : List ℕ) (i n h : ℕ) → i < length hs → h < 16 → h ≡ getD hs i 0 → Coded hs i n → Coded hs (i + 1) (n * 16 + h)
 unfolding code
-coded-next p i n d h c =
-    let t : values (take (i + 1) p) ≡ values (take i p) ++ ((getD p i 0 - 0x30) ∷ []) =
-    rw (add-one, take-suc p i 0 h) (map-append (λ c. c - 0x30) (take i p) (getD p i 0 ∷ [])) in
-    let b = between-inv 0x30 0x39 (getD p i 0) (every-at (between 0x30 0x39) p i 0 d h) in (
-      rw (t, code-append 1 (values (take i p)) ((getD p i 0 - 0x30) ∷ [])) (ap (λ (m : ℕ). m * 16 + (getD p i 0 - 0x30)) (c .0)),
-      rw (add-one, pow-suc) (omega (arith, b, c .1)),
-    )
+coded-next hs i n h l k e c = (
+  rw (add-one, take-suc hs i 0 l, code-append 1 (take i hs) (getD hs i 0 ∷ [])) (ap (λ (m : ℕ). m * 16 + h) (c .0) ∙ ap (λ (m : ℕ). codeFrom 1 (take i hs) * 16 + m) e),
+  rw (add-one, pow-suc) (omega (arith, c .1)),
+)
 
-pub coded-most : (p : List ℕ) (i n : ℕ) → i ≤ 14 → Coded p i n → n < 2 * 16 ^ 14
-coded-most p i n h c = omega (arith, c .1, pow-le-pow-right {n = 16} (lit< tt) h)
+pub coded-most : (hs : List ℕ) (i n : ℕ) → i ≤ 14 → Coded hs i n → n < 2 * 16 ^ 14
+coded-most hs i n h c = omega (arith, c .1, pow-le-pow-right {n = 16} (lit< tt) h)
+
+-- as many lengths as members
+pub kept-count : {ps : List (List ℕ)} {lengths held : List ℕ} → Kept ps lengths held → length lengths ≡ length ps
+kept-count {ps} k = ap length (k .sizes) ∙ length-map ps length
 
 -- a number among the first i, and among one more
 among-append : (n : ℕ) (ms ks : List ℕ) → among n (ms ++ ks) ≡ (among n ms || among n ks)

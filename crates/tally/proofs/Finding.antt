@@ -12,7 +12,8 @@ use Rattle.bcd.specs.Digits.{builtIn}
 use Rattle.bcd.proofs.Outcomes.{le-or-lt}
 use Rattle.tally.specs.Members.{between, every, begins, longest}
 use Rattle.tally.specs.Steps.Codes.{Usable}
-use Rattle.tally.proofs.Telling.{Given, members-length, member-length, told-begins, begins-told}
+use Rattle.tally.proofs.Codes.{kept-count}
+use Rattle.tally.proofs.Telling.{Given, member-length, told-begins, begins-told}
 use Rattle.tally.proofs.Passing.{ended, ended-none, ended-better, ended-other, ended-all, none-empty}
 
 -- A pass that has found the length `best` at `row` ends where it should.
@@ -26,11 +27,11 @@ module _ (lengths held first : List ℕ) (n : ℕ) where
   pub found-none : Usable lengths → Found lengths held first n 0 (length lengths) 0
   found-none u ps hs g =
       let e = none-empty ps (subst (λ (l : List ℕ). every (between 1 15) l ≡ true) (g .kept .sizes) (u .short)) in
-      ap (λ k. ended 0 k 0 ps (map (builtIn .char) hs)) (members-length g) ∙ ended-all ps (map (builtIn .char) hs) e
+      ap (λ k. ended 0 k 0 ps (map (builtIn .char) hs)) (kept-count (g .kept)) ∙ ended-all ps (map (builtIn .char) hs) e
 
   module _ (best row i : ℕ) (h : i < length lengths) (f : Found lengths held first n best row i) where
     next : {ps : List (List ℕ)} {hs : List ℕ} → Given ps lengths held first n hs → drop i ps ≡ getD ps i [] ∷ drop (i + 1) ps
-    next {ps} g = rw add-one (drop-cons ps i [] (omega (arith, members-length g)))
+    next {ps} g = rw add-one (drop-cons ps i [] (omega (arith, kept-count (g .kept))))
 
     pub found-better :
         (k at : ℕ)
@@ -70,6 +71,6 @@ module _ (lengths held first : List ℕ) (n : ℕ) where
   pub found-end : (best row i : ℕ) → length lengths ≤ i → Found lengths held first n best row i → (ps : List (List ℕ)) (hs : List ℕ) → Given ps lengths held first n hs → row ≡ longest ps (map (builtIn .char) hs)
   found-end best row i h f ps hs g =
       let ds = map (builtIn .char) hs in
-      let past : length ps ≤ i = omega (arith, members-length g) in
+      let past : length ps ≤ i = omega (arith, kept-count (g .kept)) in
       let none : drop i ps ≡ [] = drop-of-length-le ps past in
       sym (ended-none best row i ds) ∙ ap (λ l. ended best row i l ds) (sym none) ∙ f ps hs g

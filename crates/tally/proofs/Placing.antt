@@ -1,13 +1,13 @@
 -- What a message adds: one of the rows, octets that one value can have, and the same for messages of the same form.
 use Prim.Native.Nat.{ℕ, suc, _+_, _≤_, _<_}
-use mathlib.Core.Path.{_≡_, refl, sym, ap, _∙_, subst}
+use mathlib.Core.Path.{_≡_, refl, sym, subst}
 use mathlib.Core.Bool.{Bool, true, false}
 use mathlib.Core.Logic.{⊎-elim}
 use mathlib.Core.Option.{Option, none, some}
 use mathlib.Core.List.{List, [], _∷_}
 use native.Mathlib.Omega.{arith}
 use lib.Dec.{eqb}
-use lib.ListN.{length, take, drop, length-map}
+use lib.ListN.{length, take, drop}
 use Rattle.bcd.specs.Outcome.{Outcome, accepted, refused, pick, after, mapped, each, All, Octets}
 use Rattle.bcd.specs.Digits.{builtIn}
 use Rattle.bcd.proofs.Outcomes.{accepted-inj, never, after-inv, mapped-inv, each-inv, all-drop}
@@ -21,7 +21,6 @@ use Rattle.form.proofs.Demand3.{equal}
 use Rattle.tally.specs.Members.{same, reach, placeOf, longest}
 use Rattle.tally.specs.Rows.{gain}
 use Rattle.tally.specs.Tally.{isCldt, dataLength, destination, titleRow, destinationRow, meant, orElse, placed}
-use Rattle.tally.specs.Steps.Codes.{Kept}
 use Rattle.tally.specs.Steps.Walks.{Formed}
 use Rattle.tally.proofs.Meaning.{part-inv}
 
@@ -63,10 +62,6 @@ cldt-row ps m o t e = rw (t, e)
 
 pub other-row : (ps : List (List ℕ)) (m : Meaning) → isCldt (m .type) ≡ false → length ps ≡ meant ps m .row
 other-row ps m t = rw t
-
--- There are as many lengths as members.
-pub kept-count : {ps : List (List ℕ)} {lengths held : List ℕ} → Kept ps lengths held → length lengths ≡ length ps
-kept-count {ps} k = ap length (k .sizes) ∙ length-map ps length
 
 -- A message adds to a member's row, to the unplaced row or to the last.
 pub placed-row : (ps : List (List ℕ)) (xs : List ℕ) → placed ps xs .row < length ps + 2

@@ -3,25 +3,15 @@ use Prim.Native.Nat.{ℕ, zero, suc, _+_, _*_, _^_, _≤_, _<_}
 use mathlib.Core.Path.{_≡_, refl, sym, ap, _∙_, subst}
 use mathlib.Core.List.{List, [], _∷_}
 use native.Mathlib.Omega.{arith}
-use native.Mathlib.Numerals.{add-one}
-use native.Mathlib.Nat.{pow-suc, pow-le-pow-right}
 use lib.ListN.{length, getD, set, take}
-use lib.Seq.{take-suc, take-all, length-take-le}
-use lib.Dec.{lit<}
+use lib.Seq.{take-all, length-take-le}
 use Rattle.bcd.specs.Digits.{halves}
 use Rattle.bcd.proofs.Outcomes.{octets-of, all-at}
 use Rattle.bcd.proofs.Halves.{Nibbles, halves-nibbles, halves-length}
 use Rattle.bcd.proofs.Writing.{Begun, untouched, store-next}
 use Rattle.parameter.specs.Table.{over}
 use Rattle.tally.specs.Steps.Codes.{codeFrom, code, startsFrom, starts}
-use Rattle.tally.proofs.Codes.{code-append}
-
--- One half octet more.
-pub code-next : (hs : List ℕ) (i : ℕ) → i < length hs → code (take (i + 1) hs) ≡ code (take i hs) * 16 + getD hs i 0
-unfolding code
-code-next hs i h =
-    let e : i + 1 ≡ suc i = omega arith in
-    rw (e, take-suc hs i 0 h) (code-append 1 (take i hs) (getD hs i 0 ∷ []))
+use Rattle.tally.proofs.Codes.{Coded, coded-none, coded-next, coded-most}
 
 -- The number of the first k half octets stands at place k.
 starts-from : (n : ℕ) (hs : List ℕ) (k : ℕ) → k ≤ length hs → getD (startsFrom n hs) k 0 ≡ codeFrom n (take k hs)
@@ -56,27 +46,24 @@ first-halves xs n h = length-take-le n (halves xs) (rw (halves-length xs) h)
 
 -- The numbers of under i half octets are stored, and that of i is at hand.
 pub record Stored (hs : List ℕ) (i number : ℕ) (out d : List ℕ) : Type 0 where
-  pub is : number ≡ code (take i hs)
-  pub small : number < 2 * 16 ^ i
+  pub coded : Coded hs i number
   pub begun : Begun out (take i (starts hs)) d
 
 pub stored-none : (hs out : List ℕ) → Stored hs 0 1 out out
-unfolding code
-stored-none hs out = record { is = refl; small = lit< tt; begun = untouched out }
+stored-none hs out = record { coded = coded-none hs; begun = untouched out }
 
 module _ {hs : List ℕ} {i number : ℕ} {out d : List ℕ} (s : Stored hs i number out d) where
   pub stored-fits : (h : ℕ) → i < 15 → h < 16 → number * 16 + h < 2 ^ 64
-  stored-fits h l k = let le : i ≤ 14 = omega arith in let p : 16 ^ i ≤ 16 ^ 14 = pow-le-pow-right (lit< tt) le in omega (arith, s .small)
+  stored-fits h l k = omega (arith, coded-most hs i number (omega arith) (s .coded))
 
   store : i ≤ length hs → i < length out → Begun out (take (i + 1) (starts hs)) (set d i number)
   store l k =
-      subst (λ (v : ℕ). Begun out (take (i + 1) (starts hs)) (set d i v)) (starts-at hs i l ∙ sym (s .is))
+      subst (λ (v : ℕ). Begun out (take (i + 1) (starts hs)) (set d i v)) (starts-at hs i l ∙ sym (s .coded .0))
       (store-next (starts hs) i (s .begun) (omega (arith, starts-length hs)) k)
 
   pub stored-next : (h : ℕ) → i < length hs → i < length out → h < 16 → h ≡ getD hs i 0 → Stored hs (i + 1) (number * 16 + h) out (set d i number)
   stored-next h l k n e = record {
-    is = ap (λ m. m * 16 + h) (s .is) ∙ ap (λ m. code (take i hs) * 16 + m) e ∙ sym (code-next hs i l);
-    small = let p : 16 ^ (i + 1) ≡ 16 ^ i * 16 = rw add-one (pow-suc 16 i) in omega (arith, s .small);
+    coded = coded-next hs i number h l n e (s .coded);
     begun = store (omega arith) k;
   }
 

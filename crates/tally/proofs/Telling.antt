@@ -13,7 +13,7 @@ use Rattle.bcd.proofs.Characters.{builtIn-distinct, char-decimal}
 use Rattle.bcd.proofs.Below.{both}
 use Rattle.tally.specs.Members.{between, every, begins}
 use Rattle.tally.specs.Steps.Codes.{code, values, Kept, starts}
-use Rattle.tally.proofs.Codes.{code-inj}
+use Rattle.tally.proofs.Codes.{code-inj, values-nibbles, kept-count}
 use Rattle.tally.proofs.Starts.{starts-at, starts-length}
 use Rattle.tally.proofs.Lists.{every-at, between-inv}
 use Rattle.tally.proofs.Beginning.{begins-take, take-begins, begins-length}
@@ -29,12 +29,6 @@ map-at f (p ∷ ps) zero h = refl
 map-at f (p ∷ ps) (suc i) h = map-at f ps i (omega arith)
 
 -- Decimal characters and their half octets.
-decimal-nibbles : (p : List ℕ) → every (between 0x30 0x39) p ≡ true → Nibbles (values p)
-decimal-nibbles [] e = tt
-decimal-nibbles (c ∷ cs) e =
-    let (l, r) = both (between 0x30 0x39 c) (every (between 0x30 0x39) cs) e in
-    (omega (arith, between-inv 0x30 0x39 c l), decimal-nibbles cs r)
-
 decimal-chars : (p : List ℕ) → every (between 0x30 0x39) p ≡ true → map (builtIn .char) (values p) ≡ p
 decimal-chars [] e = refl
 decimal-chars (c ∷ cs) e =
@@ -56,13 +50,13 @@ module _ (p hs : List ℕ) (d : every (between 0x30 0x39) p ≡ true) (small : N
 
   code-begins : code (values p) ≡ code (take (length p) hs) → begins p (map (builtIn .char) hs) ≡ true
   code-begins e =
-      let v = code-inj (values p) (take (length p) hs) (decimal-nibbles p d) first-small e in
+      let v = code-inj (values p) (take (length p) hs) (values-nibbles p d) first-small e in
       take-begins p (map (builtIn .char) hs) (take-map (builtIn .char) (length p) hs ∙ ap (map (builtIn .char)) (sym v) ∙ decimal-chars p d)
 
   begins-code : begins p (map (builtIn .char) hs) ≡ true → code (values p) ≡ code (take (length p) hs)
   begins-code e =
       ap code
-      (chars-inj (values p) (take (length p) hs) (decimal-nibbles p d) first-small
+      (chars-inj (values p) (take (length p) hs) (values-nibbles p d) first-small
       (decimal-chars p d ∙ sym (begins-take p (map (builtIn .char) hs) e) ∙ take-map (builtIn .char) (length p) hs))
 
 -- Members, their lengths and numbers, and the numbers of the first digits.
@@ -73,12 +67,9 @@ pub record Given (ps : List (List ℕ)) (lengths held first : List ℕ) (n : ℕ
   pub numbers : take (length (starts hs)) first ≡ starts hs
 
 module _ {ps : List (List ℕ)} {lengths held first hs : List ℕ} {n : ℕ} (g : Given ps lengths held first n hs) where
-  pub members-length : length lengths ≡ length ps
-  members-length = ap length (g .kept .sizes) ∙ length-map ps length
-
   module _ (i : ℕ) (h : i < length lengths) where
     inside : i < length ps
-    inside = omega (arith, members-length)
+    inside = omega (arith, kept-count (g .kept))
 
     pub member-length : getD lengths i 0 ≡ length (getD ps i [])
     member-length = ap (λ l. getD l i 0) (g .kept .sizes) ∙ map-at length ps i inside

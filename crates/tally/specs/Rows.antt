@@ -30,7 +30,8 @@ within (m ∷ ms) (o ∷ os) = leb o (mostValue * m) && within ms os
 within [] os = true
 within (m ∷ ms) [] = true
 
--- Rows that can gain a message: two more than the members, and together fewer messages than the most.
+-- Rows that can gain a message: two more than the members, together fewer messages than the most, and in no row too many
+-- octets for its messages (document 02, CR 1, 'Refused').
 unfoldable pub validRows : (members : ℕ) → Rows → Bool
 validRows n r =
     eqb (length (r .messages)) (n + 2)

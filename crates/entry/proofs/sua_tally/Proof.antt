@@ -8,7 +8,7 @@ use Rattle.bcd.specs.Answers.{countedOf}
 use Rattle.report.specs.Report.{numbers, reported}
 use Rattle.tally.specs.Rows.{Rows}
 use Rattle.tally.specs.Tally.{Tallied, tallied}
-use Rattle.entry.specs.Entries.{counted, count}
+use Rattle.entry.specs.Entries.{enteredRows, enterRows}
 use borrow.Author.Needs.{needs}
 use Rattle.entry.proofs.sua_tally.Statement.{statement}
 use Rattle.entry.proofs.sua_tally.Tie as tie
@@ -19,11 +19,11 @@ stored :
     → tallied o rows ≡ t
     → number ≡ getD (numbers o) 0 0
     → report ≡ reported o held
-    → counted number rows report ≡ count t held
+    → enteredRows number rows report ≡ enterRows t held
 stored {number} {rows} {report} o t held e n r =
-    ap (λ (k : ℕ). counted k rows report) n
-    ∙ ap (counted (getD (numbers o) 0 0) rows) r
-    ∙ ap (λ (t : Tallied). count t held) e
+    ap (λ (k : ℕ). enteredRows k rows report) n
+    ∙ ap (enteredRows (getD (numbers o) 0 0) rows) r
+    ∙ ap (λ (t : Tallied). enterRows t held) e
 
 tally-requires : tie.Need-tally-requires
 tally-requires c κs = search needs

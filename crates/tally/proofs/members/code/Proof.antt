@@ -1,10 +1,9 @@
 -- `tally::members::code` meets its contract: the loop has the number of the first i digits.
 use borrow.Author.Needs.{needs}
-use Prim.Native.Nat.{ℕ, _-_, _≤_}
-use mathlib.Core.Path.{ap, _∙_}
-use mathlib.Core.List.{List}
+use Prim.Native.Nat.{_-_, _≤_}
+use mathlib.Core.Path.{sym, ap, _∙_}
 use native.Mathlib.Omega.{arith}
-use lib.ListN.{length}
+use lib.ListN.{length, getD, length-map, List·getD-map}
 use lib.Seq.{take-all}
 use Rattle.tally.specs.Members.{between}
 use Rattle.tally.specs.Steps.Codes.{code, values}
@@ -14,19 +13,19 @@ use Rattle.tally.proofs.members.code.Statement.{statement}
 use Rattle.tally.proofs.members.code.Tie as tie
 
 abbrev Inv-loop : tie.InvT-loop
-Inv-loop prefix n₀ i₀ n i = (i ≤ length prefix) × Coded prefix i n
+Inv-loop prefix n₀ i₀ n i = (i ≤ length prefix) × Coded (values prefix) i n
 
 abbrev μ-loop : tie.MeasureT-loop
 μ-loop prefix n₀ i₀ n i = length prefix - i
 
 loop-holds : tie.Need-loop-holds Inv-loop μ-loop
-loop-holds c = (search needs, coded-none (c .args .prefix .now))
+loop-holds c = (search needs, coded-none (values (c .args .prefix .now)))
 
 mul-n : tie.Need-mul-n Inv-loop μ-loop
 mul-n c =
     let l = c .before .loop in
     let s = c .before .before in
-    omega (arith, coded-most (s .args .prefix .now) (l .i) (l .n) (omega arith) (l .inv .1))
+    omega (arith, coded-most (values (s .args .prefix .now)) (l .i) (l .n) (omega arith) (l .inv .1))
 
 shared-slice-read-n : tie.Need-shared-slice-read-n Inv-loop μ-loop
 shared-slice-read-n c = search needs
@@ -44,7 +43,7 @@ add-n : tie.Need-add-n Inv-loop μ-loop
 add-n c =
     let l = c .before .before .loop in
     let s = c .before .before .before in
-    omega (arith, coded-most (s .args .prefix .now) (l .i) (l .n) (omega arith) (l .inv .1), c .shared-slice-known .given (l .i))
+    omega (arith, coded-most (values (s .args .prefix .now)) (l .i) (l .n) (omega arith) (l .inv .1), c .shared-slice-known .given (l .i))
 
 add-i : tie.Need-add-i Inv-loop μ-loop
 add-i c = search needs
@@ -56,13 +55,19 @@ loop-again : tie.Need-loop-again Inv-loop μ-loop
 loop-again c =
     let l = c .before .before .loop in
     let s = c .before .before .before in
-    (search needs, coded-next (s .args .prefix .now) (l .i) (l .n) (s .pre .0) (c .before .loop-test .taken) (l .inv .1))
+    let p = s .args .prefix .now in
+    let digit = between-inv 0x30 0x39 (getD p (l .i) 0) (every-at (between 0x30 0x39) p (l .i) 0 (s .pre .0) (c .before .loop-test .taken)) in (
+      search needs,
+      coded-next (values p) (l .i) (l .n) (getD p (l .i) 0 - 0x30) (rw (length-map p (λ c. c - 0x30)) (c .before .loop-test .taken)) (omega (arith, digit))
+          (sym (List·getD-map (λ c. c - 0x30) p (l .i) 0)) (l .inv .1),
+    )
 
 returns : tie.Need-returns Inv-loop μ-loop
 returns c =
     let l = c .before .loop in
     let s = c .before .before in
-    l .inv .1 .0 ∙ ap (λ (p : List ℕ). code (values p)) (take-all (l .i) (s .args .prefix .now) (c .loop-test .left))
+    let p = s .args .prefix .now in
+    l .inv .1 .0 ∙ ap code (take-all (l .i) (values p) (rw (length-map p (λ c. c - 0x30)) (c .loop-test .left)))
 
 pub code-spec : {M : Type 1} → statement M
 code-spec =

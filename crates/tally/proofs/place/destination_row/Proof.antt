@@ -13,7 +13,7 @@ use Rattle.tally.specs.Tally.{titleRow}
 use Rattle.tally.specs.Steps.Walks.{lastWith}
 use Rattle.tally.proofs.Looking.{walked-accepted, last-inside}
 use Rattle.tally.proofs.LastTitle.{reads-walks, title-found, title-large, title-known}
-use Rattle.tally.proofs.Placing.{kept-count}
+use Rattle.tally.proofs.Codes.{kept-count}
 use Rattle.tally.proofs.place.destination_row.Statement.{statement}
 use Rattle.tally.proofs.place.destination_row.Tie as tie
 

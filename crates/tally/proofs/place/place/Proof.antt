@@ -12,7 +12,8 @@ use Rattle.form.specs.Form.{settled}
 use Rattle.tally.specs.Rows.{gain}
 use Rattle.tally.specs.Steps.Walks.{Formed}
 use Rattle.tally.proofs.Meaning.{formed-means}
-use Rattle.tally.proofs.Placing.{kept-count, placed-meant, placed-refused, settles-formed}
+use Rattle.tally.proofs.Codes.{kept-count}
+use Rattle.tally.proofs.Placing.{placed-meant, placed-refused, settles-formed}
 use Rattle.tally.proofs.place.place.Statement.{statement}
 use Rattle.tally.proofs.place.place.Tie as tie
 

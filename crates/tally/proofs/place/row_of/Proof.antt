@@ -17,7 +17,8 @@ use Rattle.form.specs.Form.{Meaning, meaning}
 use Rattle.tally.specs.Tally.{isCldt}
 use Rattle.tally.proofs.Looking.{walked-accepted, first-inside}
 use Rattle.tally.proofs.Meaning.{Means, means, means-walks, means-destination, destination-reads, destination-known, formed}
-use Rattle.tally.proofs.Placing.{kept-count, cldt-row, other-row}
+use Rattle.tally.proofs.Codes.{kept-count}
+use Rattle.tally.proofs.Placing.{cldt-row, other-row}
 use Rattle.tally.proofs.place.row_of.Statement.{statement}
 use Rattle.tally.proofs.place.row_of.Tie as tie
 

@@ -1,5 +1,5 @@
 -- An address read through an accessor: the starts of its others are moved to count from the first octet of the values.
-use Prim.Native.Nat.{ℕ, zero, suc, _+_, _^_, _≤_, _<_}
+use Prim.Native.Nat.{ℕ, _+_, _^_, _≤_, _<_}
 use mathlib.Core.Path.{_≡_, refl, sym, ap, _∙_, subst}
 use mathlib.Core.Option.{none, some}
 use mathlib.Core.Logic.{_⊎_, inl, inr, ⊎-elim}
@@ -11,6 +11,7 @@ use lib.Seq.{getD-append-add, getD-drop, getD-take, length-take-le, take-at, dro
 use Rattle.bcd.specs.Outcome.{Outcome, accepted, refused, after, mapped, All, Octets}
 use Rattle.bcd.specs.Digits.{builtIn}
 use Rattle.bcd.proofs.Outcomes.{all-at, le-or-lt}
+use Rattle.bcd.proofs.Reading.{map-at}
 use Rattle.bcd.proofs.Writing.{Begun, store-next}
 use Rattle.parameter.specs.declared.Place.{Place}
 use Rattle.parameter.specs.Walk.{valued}
@@ -34,11 +35,6 @@ begun-behind : {out p d : List ℕ} (i : ℕ) → Begun out p d → length p ≡
 begun-behind {out} {p} {d} i b e =
     let h : i ≡ length p + 0 = omega arith in
     rw (b .holds, h) (getD-append-add p (drop (length p) out) 0 0 ∙ getD-drop (length p) out 0 0)
-
-map-at : (f : ℕ → ℕ) (xs : List ℕ) (i : ℕ) → i < length xs → getD (map f xs) i 0 ≡ f (getD xs i 0)
-map-at f [] i h = absurd (omega arith)
-map-at f (x ∷ xs) zero h = refl
-map-at f (x ∷ xs) (suc i) h = map-at f xs i (omega arith)
 
 -- The first so many starts, moved by a base.
 abbrev pub movedStarts : (base count : ℕ) → List ℕ → List ℕ

@@ -1,11 +1,15 @@
 // The first parameter with a tag, read: what the accessors of a message are made of (message.rs; RFC 3868, 3.9 and 3.10).
 // 15 first, if any record meets it.
+mod pass;
+pub mod screen;
+
 use address::SuaAddress;
 use address::decode::AddressRead;
 use address::decode::refused;
 use bcd::error::Refusal;
 use parameter::Number;
 use parameter::table::Found;
+use parameter::table::find_parameter;
 ghost use mathlib.Core.Path.{_≡_};
 ghost use mathlib.Core.List.{map};
 ghost use mathlib.Core.Option.{Option·map};
@@ -14,12 +18,13 @@ ghost use lib.ListN.{length, take};
 ghost use Rattle.bcd.specs.Outcome.{mapped, All};
 ghost use Rattle.parameter.specs.Parameter.{fourIn};
 ghost use Rattle.parameter.specs.Table.{table, over, findParam};
-ghost use Rattle.parameter.specs.Answers.{numberOf};
-ghost use Rattle.lookup.specs.Accessors.{ofFour, firstRead, octetOf, causeOf};
+ghost use Rattle.parameter.specs.Answers.{numberOf, foundOf};
+ghost use Rattle.lookup.specs.Accessors.{ofFour, readAt, firstRead, octetOf, causeOf};
 ghost use Rattle.lookup.specs.Octets.{fourthOctet, causeOctets};
 ghost use Rattle.address.specs.Titles.{verdictOf};
 ghost use Rattle.lookup.specs.Accessors.{addressFound};
 ghost use Rattle.address.specs.Listing.{listed};
+ghost use Rattle.lookup.specs.Steps.Pass.{Within};
 
 // An octet; none where the parameter is absent or has under four octets.
 pub enum Octet {
@@ -41,6 +46,25 @@ pub enum Cause {
     Refused(Refusal),
 }
 
+// The first four octets at a place that was found, as a number.
+fn number_at(values: &[u8], found: Found) -> Number
+    requires { ⌜ Within (now values) (foundOf found) ⌝ }
+    ensures { λ r. ⌜ numberOf r ≡ mapped (readAt (ofFour fourIn) (now (values .entry))) (foundOf found) ⌝ }
+{
+    match found {
+        Found::Refused(r) => Number::Refused(r),
+        Found::None => Number::None,
+        Found::At(place) => {
+            if place.length < 4 {
+                return Number::None;
+            }
+            let start = place.start;
+            let end = start + 4;
+            parameter::as_u32(&values[start..end])
+        }
+    }
+}
+
 // The first four octets of the first parameter with a tag, as a number. 15.
 pub fn first_number(
     values: &[u8],
@@ -54,18 +78,10 @@ pub fn first_number(
         numberOf r ≡ firstRead (ofFour fourIn) tag (now (values .entry))
         (table (now (tags .entry)) (now (starts .entry)) (now (lengths .entry))) count ⌝ }
 {
-    match parameter::table::find_parameter(values, tags, starts, lengths, count, tag) {
-        Found::Refused(r) => Number::Refused(r),
-        Found::None => Number::None,
-        Found::At(place) => {
-            if place.length < 4 {
-                return Number::None;
-            }
-            let start = place.start;
-            let end = start + 4;
-            parameter::as_u32(&values[start..end])
-        }
-    }
+    number_at(
+        values,
+        find_parameter(values, tags, starts, lengths, count, tag),
+    )
 }
 
 // The fourth octet of a number.
@@ -108,6 +124,37 @@ fn move_starts(base: usize, count: usize, starts: &mut [usize])
     }
 }
 
+// Reads the value at a place that was found as an address. 15, 7, then the address's.
+fn address_at(
+    values: &[u8],
+    found: Found,
+    tag: u16,
+    other_tags: &mut [u16],
+    other_starts: &mut [usize],
+    other_lengths: &mut [usize],
+) -> AddressRead
+    requires { ⌜ Within (now values) (foundOf found) ⌝ }
+    ensures { λ r. ⌜
+        listed (verdictOf (r .verdict)) (r .address)
+        (table (now («other_tags» .exit)) (now («other_starts» .exit)) (now («other_lengths» .exit)))
+        ≡ addressFound tag (now (values .entry)) (foundOf found)
+        (table (now («other_tags» .entry)) (now («other_starts» .entry)) (now («other_lengths» .entry))) ⌝ }
+{
+    match found {
+        Found::Refused(r) => refused(r),
+        Found::None => refused(Refusal::MissingParameter(tag)),
+        Found::At(place) => {
+            let start = place.start;
+            let end = start + place.length;
+            let value = &values[start..end];
+            let read = SuaAddress::decode(value, other_tags, other_starts, other_lengths);
+            let address = read.address;
+            move_starts(start, address.other_count, other_starts);
+            read
+        }
+    }
+}
+
 // Reads the first parameter with a tag as an address. 15, 7, then the address's.
 pub fn first_address(
     values: &[u8],
@@ -127,17 +174,6 @@ pub fn first_address(
         (findParam (now (values .entry)) (table (now (tags .entry)) (now (starts .entry)) (now (lengths .entry))) count tag)
         (table (now («other_tags» .entry)) (now («other_starts» .entry)) (now («other_lengths» .entry))) ⌝ }
 {
-    match parameter::table::find_parameter(values, tags, starts, lengths, count, tag) {
-        Found::Refused(r) => refused(r),
-        Found::None => refused(Refusal::MissingParameter(tag)),
-        Found::At(place) => {
-            let start = place.start;
-            let end = start + place.length;
-            let value = &values[start..end];
-            let read = SuaAddress::decode(value, other_tags, other_starts, other_lengths);
-            let address = read.address;
-            move_starts(start, address.other_count, other_starts);
-            read
-        }
-    }
+    let found = find_parameter(values, tags, starts, lengths, count, tag);
+    address_at(values, found, tag, other_tags, other_starts, other_lengths)
 }

@@ -9,6 +9,8 @@ use lookup::first_address;
 use lookup::first_number;
 use lookup::fourth_octet;
 use lookup::last_octets;
+pub use lookup::screen::Screen;
+use lookup::screen::handling_fields;
 use parameter::Number;
 use parameter::table::Found;
 use parameter::tags::AFFECTED_POINT_CODE;
@@ -33,6 +35,7 @@ ghost use Rattle.message.specs.Accessors.{dataAt, dataPart, affectedPoin
 ghost use Rattle.message.specs.Accessors.{sourceAddress, destinationAddress};
 ghost use Rattle.address.specs.Listing.{listed};
 ghost use Rattle.pieces.specs.PointCodes.{storeCodes};
+ghost use Rattle.message.specs.Accessors.{handling, screenOf};
 
 impl SuaMessage {
     // The routing context. 15.
@@ -236,6 +239,45 @@ impl SuaMessage {
             other_tags,
             other_starts,
             other_lengths,
+        )
+    }
+
+    // Reads the seven handling fields in one pass over the records, and each address into a table of its own. 15 in every field;
+    // 7 and an address's refusals in that address's alone.
+    pub fn screen(
+        self,
+        values: &[u8],
+        tags: &[u16],
+        starts: &[usize],
+        lengths: &[usize],
+        source_tags: &mut [u16],
+        source_starts: &mut [usize],
+        source_lengths: &mut [usize],
+        destination_tags: &mut [u16],
+        destination_starts: &mut [usize],
+        destination_lengths: &mut [usize],
+    ) -> Screen
+        ensures { λ r. ⌜
+            screenOf r
+            (table (now («source_tags» .exit)) (now («source_starts» .exit)) (now («source_lengths» .exit)))
+            (table (now («destination_tags» .exit)) (now («destination_starts» .exit)) (now («destination_lengths» .exit)))
+            ≡ handling (now (values .entry)) (table (now (tags .entry)) (now (starts .entry)) (now (lengths .entry))) (self .count)
+            (table (now («source_tags» .entry)) (now («source_starts» .entry)) (now («source_lengths» .entry)))
+            (table (now («destination_tags» .entry)) (now («destination_starts» .entry)) (now («destination_lengths» .entry))) ⌝ }
+    {
+        let count = self.count;
+        handling_fields(
+            values,
+            tags,
+            starts,
+            lengths,
+            count,
+            source_tags,
+            source_starts,
+            source_lengths,
+            destination_tags,
+            destination_starts,
+            destination_lengths,
         )
     }
 }

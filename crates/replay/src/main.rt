@@ -7,6 +7,7 @@ mod lent;
 mod numbers;
 mod print;
 mod records;
+mod screen;
 mod tables;
 mod words;
 
@@ -81,6 +82,9 @@ fn table_place(name: &[u8]) -> usize {
     if 0 < place(name, b"message_encode source_address destination_address") {
         return 4;
     }
+    if 0 < place(name, b"screen") {
+        return 7;
+    }
     if 0 < place(name, b"address_encode") {
         return 16;
     }
@@ -107,7 +111,7 @@ fn with_table(
     if 0 < address {
         return lent::address_call(address, m, n, a, tags, starts, lengths, line);
     }
-    let other = place(name, b"data affected_point_codes");
+    let other = place(name, b"data affected_point_codes screen");
     match other {
         1 => tables::data(m, a, tags, starts, lengths, line),
         2 => tables::affected_point_codes(
@@ -119,6 +123,7 @@ fn with_table(
             lent_codes(n, 1, list),
             line,
         ),
+        3 => screen::call(m, n, a, tags, starts, lengths, line),
         _ => 0,
     }
 }

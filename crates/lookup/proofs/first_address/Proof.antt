@@ -1,26 +1,12 @@
--- `lookup::first_address` meets its contract: the starts that reading the value stored are moved by its start.
-use Prim.Native.Nat.{ℕ, _+_, _^_, _≤_, _<_}
-use mathlib.Core.Path.{_≡_, sym, ap, _∙_}
+-- `lookup::first_address` meets its contract.
+use mathlib.Core.Path.{sym, ap, _∙_}
 use mathlib.Core.Option.{Option}
-use mathlib.Core.List.{List}
-use native.Mathlib.Omega.{arith}
-use lib.ListN.{length}
 use borrow.Author.Needs.{needs}
-use Rattle.bcd.specs.Outcome.{Outcome, Octets}
-use Rattle.bcd.proofs.Outcomes.{octets-of}
-use Rattle.parameter.specs.declared.table.Found.{Found}
+use Rattle.bcd.specs.Outcome.{Outcome}
 use Rattle.parameter.specs.declared.Place.{Place}
-use Rattle.parameter.specs.Walk.{valued}
-use Rattle.parameter.specs.Table.{Table, table, findParam}
-use Rattle.parameter.specs.Answers.{foundOf}
-use Rattle.parameter.proofs.Records.{value-length}
-use Rattle.address.specs.Titles.{verdictOf}
-use Rattle.address.specs.Listing.{listAddress}
-use Rattle.address.proofs.Tabling.{answer-refused}
+use Rattle.parameter.specs.Table.{Table, table}
 use Rattle.lookup.specs.Accessors.{addressFound}
-use Rattle.address.specs.Listing.{listed}
-use Rattle.lookup.proofs.Accessing.{find-inside, part-value, value-octets}
-use Rattle.lookup.proofs.Addresses.{moves, moved-listed, address-refused, address-none, address-there}
+use Rattle.lookup.proofs.Accessing.{find-inside}
 use Rattle.lookup.proofs.first_address.Statement.{statement}
 use Rattle.lookup.proofs.first_address.Tie as tie
 
@@ -30,115 +16,14 @@ start c = c .before .before .before .before .before .before .before .before
 abbrev given : tie.Start → Table
 given s = table (s .args .tags .now) (s .args .starts .now) (s .args .lengths .now)
 
--- the table lent for the others
-abbrev lent : tie.Start → Table
-lent s = table (s .args .other-tags .now) (s .args .other-starts .now) (s .args .other-lengths .now)
-
-found :
-    (c : tie.After-find-parameter) (f : Found)
-    → c .find-parameter .result ≡ f
-    → foundOf f ≡ findParam (start c .args .values .now) (given (start c)) (start c .args .count) (start c .args .tag)
-found c f e = sym (ap foundOf e) ∙ c .find-parameter .ensures
-
--- what is listed, by what was found
-answered :
-    (c : tie.After-find-parameter) (f : Found)
-    → c .find-parameter .result ≡ f
-    → addressFound (start c .args .tag) (start c .args .values .now) (foundOf f) (lent (start c))
-    ≡ addressFound (start c .args .tag) (start c .args .values .now)
-    (findParam (start c .args .values .now) (given (start c)) (start c .args .count) (start c .args .tag)) (lent (start c))
-answered c f e = ap (λ (o : Outcome (Option Place)). addressFound (start c .args .tag) (start c .args .values .now) o (lent (start c))) (found c f e)
-
-abbrev at : tie.After-place → tie.After-find-parameter
-at k = k .before .before
-
-abbrev place : tie.After-place → Place
-place k = k .place .given .0 .0
-
-inside : (k : tie.After-place) → place k .start + place k .length ≤ length (start (at k) .args .values .now)
-inside k =
-    let s = start (at k) in
-    find-inside (s .args .values .now) (given s) (s .args .count) (s .args .tag) (place k) (found (at k) _ (k .place .given .1))
-
--- the value, its octets, and that it ends where 64 bits can tell
-abbrev value : tie.After-place → List ℕ
-value k = valued (start (at k) .args .values .now) (place k) .value
-
-octets : (k : tie.After-place) → Octets (value k)
-octets k =
-    let values = start (at k) .args .values .now in
-    value-octets values (place k) (octets-of values (λ i. at k .before .before .before .before .before .before .before .shared-slice-known .given i .fits))
-
-small : (k : tie.After-place) → place k .start + length (value k) < 2 ^ 64
-small k = rw (value-length (start (at k) .args .values .now) (place k) (inside k)) (omega (arith, inside k))
-
-abbrev behind : tie.After-decode → tie.After-place
-behind d = d .before .before .before .before .before .before .before
-
--- what the table holds after the value was read
-abbrev left : tie.After-decode → Table
-left d = let l = d .decode .last in table (l .1 .0) (l .1 .1 .0) (l .1 .1 .1 .0)
-
-read : (d : tie.After-decode) → listed (verdictOf (d .decode .result .verdict)) (d .decode .result .address) (left d) ≡ listAddress (value (behind d)) (lent (start (at (behind d))))
-read d =
-    let k = behind d in
-    d .decode .ensures ∙ ap (λ (v : List ℕ). listAddress v (lent (start (at k)))) (part-value (start (at k) .args .values .now) (place k))
-
 find-parameter-requires : tie.Need-find-parameter-requires
 find-parameter-requires c κs = search needs
 
-enum-known-r : tie.Need-enum-known-r
-enum-known-r c = search needs
-
-refused-requires : tie.Need-refused-requires
-refused-requires c κs = search needs
-
-enum-told : tie.Need-enum-told
-enum-told c = search needs
-
-refused-requires-2 : tie.Need-refused-requires-2
-refused-requires-2 c κs = search needs
-
-enum-known-place : tie.Need-enum-known-place
-enum-known-place c = search needs
-
-add-end : tie.Need-add-end
-add-end c = omega (arith, inside (c .before .before))
-
-sub-value : tie.Need-sub-value
-sub-value c = search needs
-
-part-value-start : tie.Need-part-value-start
-part-value-start c = search needs
-
-part-value-end : tie.Need-part-value-end
-part-value-end c = omega (arith, inside (c .before .before))
-
-decode-requires : tie.Need-decode-requires
-decode-requires c κs = search needs
-
-move-starts-requires : tie.Need-move-starts-requires
-move-starts-requires c κs =
-    let d = c .before .before .before .before .before .before .before .before in
-    let k = behind d in
-    let m = moves (place k .start) (value k) (lent (start (at k))) _ _ (left d) (small k) (octets k) (read d) in
-    (m .few, m .fit)
-
-returns : tie.Need-returns
-returns c =
-    let k = c .before .before .before .before in
-    let s = start k in
-    answer-refused (lent s) (c .refused .ensures)
-    ∙ address-refused (s .args .tag) (s .args .values .now) _ _ (lent s)
-    ∙ answered k _ (c .before .before .r .given .1)
-
-returns-2 : tie.Need-returns-2
-returns-2 c =
+address-at-requires : tie.Need-address-at-requires
+address-at-requires c κs p e =
     let k = c .before .before .before in
     let s = start k in
-    answer-refused (lent s) (c .refused2 .ensures)
-    ∙ address-none (s .args .tag) (s .args .values .now) (lent s)
-    ∙ answered k _ (c .before .enum-told .given .1)
+    find-inside (s .args .values .now) (given s) (s .args .count) (s .args .tag) p (sym e ∙ k .find-parameter .ensures)
 
 same-length : tie.Need-same-length
 same-length c = search needs
@@ -149,35 +34,22 @@ same-length-2 c = search needs
 same-length-3 : tie.Need-same-length-3
 same-length-3 c = search needs
 
-returns-3 : tie.Need-returns-3
-returns-3 c =
-    let m = c .before .before in
-    let d = m .before .before .before .before .before .before .before .before .before in
-    let k = behind d in
-    let s = start (at k) in
-    moved-listed (place k .start) (value k) (lent s) _ _ (left d) (small k) _ (octets k) (read d) (m .move-starts .ensures)
-    ∙ address-there (s .args .tag) (s .args .values .now) (place k) (lent s)
-    ∙ answered (at k) _ (k .place .given .1)
+returns : tie.Need-returns
+returns c =
+    let a = c .before .before .before .before .before .before in
+    let k = a .before .before .before .before in
+    let s = start k in
+    let lent = table (s .args .other-tags .now) (s .args .other-starts .now) (s .args .other-lengths .now) in
+    a .address-at .ensures
+    ∙ ap (λ (o : Outcome (Option Place)). addressFound (s .args .tag) (s .args .values .now) o lent) (k .find-parameter .ensures)
 
 pub first-address-spec : {M : Type 1} → statement M
 first-address-spec =
     tie.close
     (tie.spec
     find-parameter-requires
-    enum-known-r
-    refused-requires
-    enum-told
-    refused-requires-2
-    enum-known-place
-    add-end
-    sub-value
-    part-value-start
-    part-value-end
-    decode-requires
-    move-starts-requires
-    returns
-    returns-2
+    address-at-requires
     same-length
     same-length-2
     same-length-3
-    returns-3)
+    returns)

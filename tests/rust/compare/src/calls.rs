@@ -93,6 +93,34 @@ impl Call {
     }
 }
 
+/// The accessors whose answers `screen` gives, in its order.
+pub const SCREENED: [&str; 7] = [
+    "routing_context",
+    "protocol_class",
+    "sequence_control",
+    "ss7_hop_count",
+    "sccp_cause",
+    "source_address",
+    "destination_address",
+];
+
+/// What stands between their answers.
+pub const BETWEEN: &str = " ; ";
+
+/// The calls of those accessors over the table of a call of `screen`; an address's is lent what `screen` is lent for it.
+pub fn screened(call: &Call) -> Vec<Call> {
+    let (count, rooms, table) = (&call.numbers[..1], &call.numbers[1..7], &call.numbers[7..]);
+    let own = |name: &&str| {
+        let lent = match *name {
+            "source_address" => &rooms[..3],
+            "destination_address" => &rooms[3..],
+            _ => &[],
+        };
+        Call { name: name.to_string(), numbers: [count, lent, table].concat(), octets: call.octets.clone(), room: None }
+    };
+    SCREENED.iter().map(own).collect()
+}
+
 fn piece(text: &str) -> Vec<u8> {
     let (digits, count) = text.split_once('*').unwrap_or((text, "1"));
     let octets: Vec<u8> = (0..digits.len() / 2)
@@ -451,6 +479,7 @@ pub fn answer(call: &Call) -> String {
         | "affected_point_codes"
         | "source_address"
         | "destination_address" => accessors(&call.name, &mut t),
+        "screen" => screened(call).iter().map(answer).collect::<Vec<String>>().join(BETWEEN),
         "settle" => {
             let buffer = t.buffer();
             written(form(t.bytes()), buffer)

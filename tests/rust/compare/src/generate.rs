@@ -1,11 +1,11 @@
 //! Random calls for crates/replay.
 
-use crate::calls::{answer, Call};
+use crate::calls::{answer, screened, Call, BETWEEN, SCREENED};
 use crate::messages;
 use crate::random::Random;
 
-/// The calls, and the refusals that each can give.
-pub const CALLS: [(&str, &[u64]); 61] = [
+/// The calls, and the refusals that each can give. A call's place chooses what is recorded of it, so a new one goes last.
+pub const CALLS: [(&str, &[u64]); 62] = [
     ("decode_gt_digits", &[12]),
     ("encode_gt_digits", &[9, 11, 14]),
     ("gt_digits_length", &[9, 11]),
@@ -67,6 +67,7 @@ pub const CALLS: [(&str, &[u64]); 61] = [
     ("settled_length", &[1, 2, 4, 5, 6, 8, 9, 10, 12]),
     ("read", &[1, 2, 4, 5, 6, 8, 12, 14]),
     ("encode", &[4, 10, 12, 14, 15]),
+    ("screen", &[1, 5, 6, 7, 8, 12, 13, 15]),
 ];
 
 /// How many octets there may be: 1 in so many inputs is at a bound of document 01.
@@ -76,13 +77,26 @@ pub struct Sizes {
 }
 
 /// The number refused; 0 where the call was accepted.
-pub fn refused(name: &str, answer: &str) -> u64 {
+fn refused(name: &str, answer: &str) -> u64 {
     let mut words = answer.split(' ');
     let first = words.next().unwrap_or("");
     match name {
         "read" | "encode" => first.parse().unwrap_or(0),
         _ if first == "refused" => words.next().and_then(|n| n.parse().ok()).unwrap_or(0),
         _ => 0,
+    }
+}
+
+/// The numbers refused, of which `screen` can have several; 0 alone where the call was accepted.
+pub fn refusals(name: &str, answer: &str) -> Vec<u64> {
+    if name != "screen" {
+        return vec![refused(name, answer)];
+    }
+    let numbers: Vec<u64> = answer.split(BETWEEN).map(|part| refused(name, part)).filter(|n| *n != 0).collect();
+    if numbers.is_empty() {
+        vec![0]
+    } else {
+        numbers
     }
 }
 
@@ -192,18 +206,9 @@ impl Maker<'_> {
         self.some(8);
         self.number(others);
     }
-    /// Records laid out in values: the columns, the values and the count. Some reach outside.
+    /// A table of records, the values and the count. Some reach outside.
     fn records(&mut self, list: Vec<(u16, Vec<u8>)>) -> (Vec<u64>, Vec<u8>, u64) {
-        let mut values = Vec::new();
-        let mut columns = [Vec::new(), Vec::new(), Vec::new()];
-        for (tag, value) in &list {
-            let gap = self.r.below(3);
-            values.extend(self.r.octets(gap));
-            columns[0].push(u64::from(*tag));
-            columns[1].push(values.len() as u64);
-            columns[2].push(value.len() as u64);
-            values.extend(value);
-        }
+        let (mut columns, values) = laid_out(self.r, &list);
         let mut count = list.len() as u64;
         match self.r.below(10) {
             0 if count > 0 => {
@@ -220,8 +225,7 @@ impl Maker<'_> {
             4 if self.r.once_in(4) => count = u64::MAX,
             _ => {}
         }
-        let numbers = columns.into_iter().flat_map(|c| std::iter::once(c.len() as u64).chain(c)).collect();
-        (numbers, values, count)
+        (lists(columns), values, count)
     }
     /// Parameters for a table; rarely with a value that is too long, or too many octets in all.
     fn list(&mut self, broken: bool) -> Vec<(u16, Vec<u8>)> {
@@ -439,6 +443,31 @@ impl Maker<'_> {
             _ => self.accessor_or_constructor(name),
         }
     }
+    /// Up to two parameters with a tag, put anywhere into a list.
+    fn put_some(&mut self, list: &mut Vec<(u16, Vec<u8>)>, tag: u16) {
+        for _ in 0..self.r.below(3) {
+            let broken = self.r.once_in(3);
+            let value = messages::value(self.r, tag, true, broken);
+            let at = self.r.below(list.len() + 1);
+            list.insert(at, (tag, value));
+        }
+    }
+    fn screen(&mut self) {
+        let broken = self.r.once_in(3);
+        let mut list = self.list(broken);
+        for name in SCREENED {
+            self.put_some(&mut list, wanted(name));
+        }
+        if self.large() {
+            list.insert(0, (0x0102 + self.r.below(2) as u16, vec![0; 1_048_576 + self.r.below(2)]));
+        }
+        let (table, values, count) = self.records(list);
+        self.number(count);
+        self.rooms();
+        self.rooms();
+        self.call.numbers.extend(table);
+        self.octets(values);
+    }
     fn accessor_or_constructor(&mut self, name: &str) {
         match name {
             "routing_context"
@@ -453,12 +482,7 @@ impl Maker<'_> {
                 let broken = self.r.once_in(3);
                 let mut list = self.list(broken);
                 let tag = wanted(name);
-                for _ in 0..self.r.below(3) {
-                    let broken = self.r.once_in(3);
-                    let value = messages::value(self.r, tag, true, broken);
-                    let at = self.r.below(list.len() + 1);
-                    list.insert(at, (tag, value));
-                }
+                self.put_some(&mut list, tag);
                 if name.ends_with("_address") && self.large() {
                     list.insert(0, (tag, vec![0; 1_048_576 + self.r.below(2)]));
                 }
@@ -472,6 +496,7 @@ impl Maker<'_> {
                 self.call.numbers.extend(table);
                 self.octets(values);
             }
+            "screen" => self.screen(),
             "cldt" | "cldr" => self.connectionless(name),
             "asp_up" | "asp_up_ack" | "asp_down" | "asp_down_ack" => {
                 if name == "asp_up" {
@@ -548,8 +573,28 @@ impl Maker<'_> {
     }
 }
 
+/// Records laid out in values: the columns and the values.
+pub fn laid_out(r: &mut Random, list: &[(u16, Vec<u8>)]) -> ([Vec<u64>; 3], Vec<u8>) {
+    let mut values = Vec::new();
+    let mut columns = [Vec::new(), Vec::new(), Vec::new()];
+    for (tag, value) in list {
+        let gap = r.below(3);
+        values.extend(r.octets(gap));
+        columns[0].push(u64::from(*tag));
+        columns[1].push(values.len() as u64);
+        columns[2].push(value.len() as u64);
+        values.extend(value);
+    }
+    (columns, values)
+}
+
+/// Columns as the numbers of a call: each as its count and its numbers.
+pub fn lists(columns: [Vec<u64>; 3]) -> Vec<u64> {
+    columns.into_iter().flat_map(|c| std::iter::once(c.len() as u64).chain(c)).collect()
+}
+
 /// The tag that an accessor looks for.
-fn wanted(name: &str) -> u16 {
+pub fn wanted(name: &str) -> u16 {
     match name {
         "routing_context" => 0x0006,
         "sequence_control" => 0x0116,
@@ -585,8 +630,10 @@ pub fn call(r: &mut Random, name: &str, sizes: Sizes) -> Call {
     let mut maker = Maker { r, sizes, call: Call { name: name.into(), ..Call::default() } };
     maker.make(name);
     let mut call = maker.call;
-    if let Some(at) = call.room {
-        fit(r, &mut call, at);
+    match call.room {
+        Some(_) if name == "screen" => fit_screen(r, &mut call),
+        Some(at) => fit(r, &mut call, at),
+        None => {}
     }
     call
 }
@@ -614,6 +661,14 @@ fn fit(r: &mut Random, call: &mut Call, at: usize) {
             _ => needed,
         };
         call.numbers[place] = n.min(most) as u64;
+    }
+}
+
+/// Chooses what `screen` is lent for each address, as for the accessor of that address.
+pub fn fit_screen(r: &mut Random, call: &mut Call) {
+    for (i, mut own) in screened(call).into_iter().skip(5).enumerate() {
+        fit(r, &mut own, 1);
+        call.numbers[3 * i + 1..3 * i + 4].copy_from_slice(&own.numbers[1..4]);
     }
 }
 

@@ -10,6 +10,7 @@ mod random;
 mod record;
 mod replay;
 mod rows;
+mod screen;
 mod tally;
 mod typed;
 
@@ -21,11 +22,12 @@ fn main() {
         Some("typed") => typed::compare(number(2), number(3)),
         Some("tally") => tally::compare(number(2), number(3)),
         Some("calls") => replay::compare(number(2), number(3)),
+        Some("screen") => screen::compare(number(2), number(3)),
         Some("rows") => rows::compare(&words[2]),
         Some("record") => record::record(&words[2]),
         Some("bench") => bench::bench(),
         _ => {
-            eprintln!("compare archive|typed|tally|calls COUNT SEED, rows FILE, record FOLDER, or bench");
+            eprintln!("compare archive|typed|tally|calls|screen COUNT SEED, rows FILE, record FOLDER, or bench");
             false
         }
     };

@@ -1,13 +1,15 @@
 //! The fixed list of calls that crates/replay runs in the gate, with the answers recorded from the Rust.
 
 use crate::calls::{answer, Call};
-use crate::generate::{call, refused, Sizes, CALLS};
+use crate::generate::{call, refusals, Sizes, CALLS};
 use crate::random::Random;
 use crate::replay::marked;
 use std::collections::BTreeSet;
 
 /// Calls of each function, at least, beside the worked ones.
 const EACH: usize = 40;
+/// The same of `screen`, whose lines are long.
+const SCREENS: usize = 16;
 /// The characters of a call and its answer, at most.
 const SHORT: usize = 900;
 /// The same, where they show a refusal that nothing shorter showed.
@@ -71,7 +73,8 @@ fn worked() -> Vec<String> {
 fn chosen(name: &str, numbers: &[u64], seed: u64) -> Vec<(String, String)> {
     let mut pairs = Vec::new();
     let mut missing: BTreeSet<u64> = numbers.iter().copied().collect();
-    let mut refusals = 0;
+    let each = if name == "screen" { SCREENS } else { EACH };
+    let mut refused = 0;
     for i in 0.. {
         assert!(i < 200_000, "{name} never refuses as {missing:?}");
         let mut r = Random::new(seed + i);
@@ -79,15 +82,16 @@ fn chosen(name: &str, numbers: &[u64], seed: u64) -> Vec<(String, String)> {
         let given = answer(&call);
         let line = marked(&call, &given);
         let size = line.len() + given.len();
-        let number = refused(name, &given);
-        let wanted = missing.contains(&number) && (size <= SHORT || (i > 2_000 && size < LONG));
-        let more = size <= SHORT && pairs.len() < EACH && (number == 0 || refusals < EACH / 2);
+        let numbers = refusals(name, &given);
+        let accepted = numbers == [0];
+        let wanted = numbers.iter().any(|n| missing.contains(n)) && (size <= SHORT || (i > 2_000 && size < LONG));
+        let more = size <= SHORT && pairs.len() < each && (accepted || refused < each / 2);
         if wanted || more {
-            missing.remove(&number);
-            refusals += usize::from(number != 0);
+            missing.retain(|n| !numbers.contains(n));
+            refused += usize::from(!accepted);
             pairs.push((line, given));
         }
-        if (pairs.len() >= EACH || i > 5_000) && missing.is_empty() {
+        if (pairs.len() >= each || i > 5_000) && missing.is_empty() {
             return pairs;
         }
     }

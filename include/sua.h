@@ -34,8 +34,8 @@ extern "C" {
 
 /*
  * The settled form of a message: it is read, the value of every source and destination address is read and written
- * again, and the message is encoded. Refusals in order: 12, 1, 2, 4, 5 or 6 in wire order; then for each address in wire
- * order 1, 8, 5 or 6 of its walk, each sub-parameter's 1 or 6, 9, 10; then 14.
+ * again, every SS7 hop counter (0x0101) is left out, and the message is encoded. Refusals in order: 12, 1, 2, 4, 5 or 6 in
+ * wire order; then for each address in wire order 1, 8, 5 or 6 of its walk, each sub-parameter's 1 or 6, 9, 10; then 14.
  *
  * A form is never longer than the input, rounded up to a multiple of 4: an output of that length is always long enough.
  */

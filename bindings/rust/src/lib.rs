@@ -6,8 +6,9 @@
 //!
 //! ```
 //! // A CLDT with a source address and the data `Hi`, as two gateways sent it: the copies differ in
-//! // the header's reserved octet and length, the address's reserved bits and octets, and padding.
-//! let first = *b"\x01\x00\x07\x01\0\0\0\x20\
+//! // the header's reserved octet and length, the address's reserved bits and octets, padding, and a
+//! // hop counter.
+//! let first = *b"\x01\x00\x07\x01\0\0\0\x28\x01\x01\0\x08\0\0\0\x0f\
 //!     \x01\x02\0\x10\0\x02\0\x01\x80\x03\0\x08\0\0\0\x08\x01\x0b\0\x06Hi\xaa\xbb";
 //! let second = *b"\x01\xff\x07\x01\0\0\0\x00\
 //!     \x01\x02\0\x10\0\x02\0\xf1\x80\x03\0\x08\x09\x09\x09\x08\x01\x0b\0\x06Hi";
@@ -63,6 +64,9 @@ use refusal::answer;
 const MOST: usize = 1_048_576;
 
 /// Writes the settled form of a message, and answers its length.
+///
+/// The form has the message's parameters in wire order, each address read and written again. It has
+/// no SS7 hop counter (0x0101), since that falls at each title translation; [`read`] hands it out.
 ///
 /// Refusals in order: 12, 1, 2, 4, 5 or 6 in wire order; then for each address in wire order 1, 8,
 /// 5 or 6 of its walk, each sub-parameter's 1 or 6, 9, 10; then 14.

@@ -8,6 +8,9 @@ use navrost::{
 };
 use octets::{octets, ASP, CLDT, FIRST, FORM, SECOND};
 
+/// The tag of the parameter that a form leaves out.
+const HOP_COUNTER: u16 = 0x0101;
+
 #[test]
 fn a_message_with_no_parameters() {
     let message = octets(&[ASP]);
@@ -68,6 +71,23 @@ fn both_addresses() {
         assert_eq!(parameters[2].value, b"Hi");
         assert_eq!(parameters[2].address, None);
     }
+}
+
+#[test]
+fn hop_counters_are_read_and_written() {
+    let message = octets(&[
+        "01000701 0000001c",
+        "01010008 0000000f 010b0006 48690000 01010004",
+    ]);
+    let reading = read_vec(&message).unwrap();
+    let parameters = reading.account().parameters();
+    let list: Vec<_> = parameters.map(|p| (p.tag, p.value)).collect();
+    let counter = &[0, 0, 0, 15][..];
+    assert_eq!(
+        list,
+        [(HOP_COUNTER, counter), (0x010b, b"Hi"), (HOP_COUNTER, b"")]
+    );
+    assert_eq!(encode_vec(7, 1, &list), Ok(message.clone()));
 }
 
 /// The address of the first parameter.
@@ -194,9 +214,11 @@ fn accounts_as_long_as_they_can_be() {
     }
 }
 
-/// What an account hands out, without the padding, the order and the places that mean nothing.
+/// What an account hands out, without the padding, the order, the places and the hop counters, which
+/// mean nothing.
 fn told(account: Account<'_>) -> String {
-    let parameters = account.parameters().map(|p| match p.address {
+    let meant = account.parameters().filter(|p| p.tag != HOP_COUNTER);
+    let parameters = meant.map(|p| match p.address {
         Some(address) => format!("{:x} {:?}", p.tag, address),
         None => format!("{:x} {:x?}", p.tag, p.value),
     });
@@ -222,7 +244,7 @@ fn messages_spoilt_anywhere() {
         "01020018 00020007 80040006 41420000 80020008 00000102",
     ]);
     let sources = [octets(&[FIRST]), octets(&[SECOND]), others];
-    let mut settled = 0;
+    let (mut settled, mut left_out) = (0, 0);
     for _ in 0..20_000 {
         let mut message = sources[random(sources.len())].clone();
         for _ in 0..random(4) {
@@ -242,6 +264,8 @@ fn messages_spoilt_anywhere() {
                 let account = of_form.account();
                 assert_eq!(account.parameters().count(), account.len());
                 assert_eq!(told(account), told(reading.account()));
+                assert!(account.parameters().all(|p| p.tag != HOP_COUNTER));
+                left_out += reading.account().len() - account.len();
 
                 // A form is what encoding gives of the parameters that it is read as.
                 let list: Vec<_> = account.parameters().map(|p| (p.tag, p.value)).collect();
@@ -261,5 +285,5 @@ fn messages_spoilt_anywhere() {
             other => panic!("{:?}", other),
         }
     }
-    assert!(settled > 1000);
+    assert!(settled > 1000 && left_out > 0);
 }

@@ -105,6 +105,40 @@ fn one_text_from_two_gateways() {
     gives(&[FIRST], &[FORM]);
     gives(&[SECOND], &[FORM]);
     gives(&[FORM], &[FORM]);
+
+    // With hop counters of 15 and 14.
+    let first = FIRST.replace("010b", "01010008 0000000f 010b");
+    let second = SECOND.replace("010b", "01010008 ffffff0e 010b");
+    gives(&[&first], &[FORM]);
+    gives(&[&second], &[FORM]);
+}
+
+#[test]
+fn hop_counters() {
+    let data = "010b0006 48690000";
+    let form = ["01000701 00000010", data];
+    gives(&[CLDT, "01010008 0000000f", data], &form);
+    gives(&[CLDT, data, "01010005 0e"], &form);
+    let front = "01010004 01010008 0000000f";
+    gives(&[CLDT, front, data, "01010008 0000000e"], &form);
+    gives(&[CLDT, front], &["01000701 00000008"]);
+
+    // A sub-parameter with that tag is no hop counter.
+    let source = "01020010 00020000 01010008 0000000f";
+    gives(&[CLDT, source], &["01000701 00000018", source]);
+
+    let refusal = Refusal::InvalidParameter {
+        tag: 0x0101,
+        length: 3,
+    };
+    refuses(&octets(&[CLDT, "01010003"]), refusal, 5, &[0x0101, 3]);
+    let refusal = Refusal::ParameterTooShort {
+        tag: 0x0101,
+        expected: 8,
+        actual: 7,
+    };
+    let message = octets(&[CLDT, "01010008 000000"]);
+    refuses(&message, refusal, 6, &[0x0101, 8, 7]);
 }
 
 #[test]

@@ -6,7 +6,7 @@ use mathlib.Core.List.{List, [], _∷_}
 use lib.ListN.{length, drop}
 use Rattle.bcd.specs.Outcome.{accepted, All, Octets, most}
 use Rattle.bcd.specs.Digits.{builtIn}
-use Rattle.bcd.proofs.Outcomes.{all-drop}
+use Rattle.bcd.proofs.Outcomes.{accepted-inj, all-drop}
 use Rattle.bcd.proofs.Characters.{builtIn-lawful}
 use Rattle.parameter.specs.Parameter.{Param, roundUp, runLength, Fits}
 use Rattle.parameter.specs.Table.{Table}
@@ -18,7 +18,9 @@ use Rattle.message.proofs.Standing.{message-listed}
 use Rattle.message.proofs.Messages.{message-inv}
 use Rattle.form.specs.Form.{settled, Meaning, meaning}
 use Rattle.form.specs.HasForm.{Settles, Clean}
+use Rattle.form.specs.HopCounters.{withoutHopCounters}
 use Rattle.form.specs.Standing.{AllStand}
+use Rattle.form.proofs.Settling.{no-hop-counters, counters-ignored}
 use Rattle.form.proofs.Settled as S
 use Rattle.form.proofs.Standing.{meaning-stands}
 
@@ -68,8 +70,8 @@ module _ (xs f : List ℕ) (o : Octets xs) (e : settled builtIn xs ≡ accepted 
   form-stands =
       let (same, (w, hw)) = read-back in
       let octets = S.form-octets builtIn builtIn-lawful xs f o e in
-      let (m, hm, stands) = meaning-stands f w (λ m hm. fit f m octets hm) hw in
-      (m, w, hm, sym same ∙ hw, stands)
+      let (m, hm, kept) = no-hop-counters builtIn xs f e in
+      (m, w, hm, sym same ∙ hw, meaning-stands f m w hm (fit f m octets hm) kept hw)
 
 clean : (p : Param) → Fits p → Settles builtIn p ↔ Clean p
 clean p f = (
@@ -93,3 +95,15 @@ has-form xs o = (
   (λ w. let (m, hm, h) = S.has-form builtIn builtIn-lawful xs o .0 w in (m, hm, all-clean (m .params) (fit xs m o hm) .0 h)),
   (λ (m, hm, h). S.has-form builtIn builtIn-lawful xs o .1 (m, hm, all-clean (m .params) (fit xs m o hm) .1 h)),
 )
+
+-- Two messages that have a form, of one type, whose parameters without the hop counters are the same list, have the same form.
+pub hop-counter-free :
+    (xs ys f g : List ℕ) (m n : Message)
+    → settled builtIn xs ≡ accepted f
+    → settled builtIn ys ≡ accepted g
+    → readMessage xs ≡ accepted m
+    → readMessage ys ≡ accepted n
+    → m .type ≡ n .type
+    → withoutHopCounters (m .params) ≡ withoutHopCounters (n .params)
+    → f ≡ g
+hop-counter-free xs ys f g m n e d hm hn t same = accepted-inj (sym e ∙ counters-ignored builtIn xs ys m n hm hn t same ∙ d)

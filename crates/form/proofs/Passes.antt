@@ -22,9 +22,9 @@ use Rattle.message.specs.declared.header.CommonHeader.{CommonHeader}
 use Rattle.message.specs.Message.{Message, readHeader, readMessage, messageOctets}
 use Rattle.message.proofs.Messages.{message-length}
 use Rattle.message.proofs.Listing.{framed}
-use Rattle.form.specs.Form.{isAddress, settledParam, settled}
+use Rattle.form.specs.Form.{isAddress, isHopCounter, settledParam, settled}
 use Rattle.form.specs.Steps.Passes.{settledRun, sumOf}
-use Rattle.form.proofs.Settling.{settled-unread}
+use Rattle.form.proofs.Settling.{settled-address, settled-other, settled-counter, settled-unread}
 use Rattle.form.proofs.Sua.{settled-plain}
 
 -- the header first
@@ -104,18 +104,6 @@ pub rewrite-read : (tag : ℕ) (v : List ℕ) → length v ≤ mostValue → aft
 unfolding readAddress rewriteAddress
 rewrite-read tag v h = ap (λ o. after o (writeAddress builtIn tag)) (bounded-within v (addressIn builtIn v) (omega arith))
 
--- the two kinds of parameter
-pub settled-address :
-    (tag : ℕ) (v : List ℕ)
-    → isAddress tag ≡ true
-    → settledParam builtIn (record { tag = tag; value = v }) ≡ mapped (λ w. record { tag = tag; value = w } ∷ []) (rewriteAddress builtIn tag v)
-unfolding settledParam
-settled-address tag v e = rw e
-
-pub settled-raw : (tag : ℕ) (v : List ℕ) → isAddress tag ≡ false → settledParam builtIn (record { tag = tag; value = v }) ≡ accepted (record { tag = tag; value = v } ∷ [])
-unfolding settledParam
-settled-raw tag v e = rw e
-
 pub one-length : (p : Param) → runLength (p ∷ []) ≡ paddedLength (length (p .value))
 unfolding runLength
 one-length p = omega arith
@@ -134,9 +122,15 @@ rewrite-small tag v w e =
     let (t, same) = demand-inv (leb (length (two (a .routing) ++ two (indicator a) ++ os)) mostValue) 10 _ _ hs in
     subst (λ (w : List ℕ). length w ≤ mostValue) (accepted-inj same) (leb-true _ _ t)
 
--- what a parameter takes in the form is its value's wire length, or that of its address written again
-pub raw-length : (tag : ℕ) (v : List ℕ) → isAddress tag ≡ false → length v ≤ mostValue → wireLength tag (length v) ≡ mapped runLength (settledParam builtIn (record { tag = tag; value = v }))
-raw-length tag v e h = wire-within tag (length v) h ∙ sym (ap (mapped runLength) (settled-raw tag v e) ∙ ap accepted (one-length (record { tag = tag; value = v })))
+-- what a parameter takes in the form: nothing, its value's wire length, or that of its address written again
+pub counter-length : (tag : ℕ) (v : List ℕ) → isHopCounter tag ≡ true → accepted 0 ≡ mapped runLength (settledParam builtIn (record { tag = tag; value = v }))
+unfolding runLength
+counter-length tag v e = sym (ap (mapped runLength) (settled-counter builtIn (record { tag = tag; value = v }) e))
+
+pub raw-length : (tag : ℕ) (v : List ℕ) → isAddress tag ≡ false → isHopCounter tag ≡ false → length v ≤ mostValue → wireLength tag (length v) ≡ mapped runLength (settledParam builtIn (record { tag = tag; value = v }))
+raw-length tag v e c h =
+    let p : Param = record { tag = tag; value = v } in
+    wire-within tag (length v) h ∙ sym (ap (mapped runLength) (settled-other builtIn p false e c) ∙ ap accepted (one-length p))
 
 module _ (tag : ℕ) (v : List ℕ) (e : isAddress tag ≡ true) where
   pub address-length : (n : ℕ) → accepted n ≡ mapped length (rewriteAddress builtIn tag v) → wireLength tag n ≡ mapped runLength (settledParam builtIn (record { tag = tag; value = v }))
@@ -146,10 +140,10 @@ module _ (tag : ℕ) (v : List ℕ) (e : isAddress tag ≡ true) where
       let q : Param = record { tag = tag; value = w } in
       wire-within tag n small
       ∙ ap accepted (sym (one-length q ∙ ap paddedLength l))
-      ∙ sym (ap (mapped runLength) (settled-address tag v e ∙ ap (mapped (λ w. record { tag = tag; value = w } ∷ [])) hw))
+      ∙ sym (ap (mapped runLength) (settled-address builtIn (record { tag = tag; value = v }) e ∙ ap (mapped (λ w. record { tag = tag; value = w } ∷ [])) hw))
 
   pub address-refused : (n : ℕ) (vs : List ℕ) → refused n vs ≡ mapped length (rewriteAddress builtIn tag v) → refused n vs ≡ mapped runLength (settledParam builtIn (record { tag = tag; value = v }))
-  address-refused n vs k = go (rewriteAddress builtIn tag v) k ∙ sym (ap (mapped runLength) (settled-address tag v e))
+  address-refused n vs k = go (rewriteAddress builtIn tag v) k ∙ sym (ap (mapped runLength) (settled-address builtIn (record { tag = tag; value = v }) e))
     where
       go : (o : Outcome (List ℕ)) → refused n vs ≡ mapped length o → refused n vs ≡ mapped runLength (mapped (λ w. record { tag = tag; value = w } ∷ []) o)
       go (accepted w) k = absurd (never k)
@@ -157,15 +151,17 @@ module _ (tag : ℕ) (v : List ℕ) (e : isAddress tag ≡ true) where
 
 -- a parameter takes at most 65,536 octets, and so sums stay small
 param-small : (p : Param) (qs : List Param) → length (p .value) ≤ mostValue → settledParam builtIn p ≡ accepted qs → runLength qs ≤ 65536
-param-small p qs h e = go (isAddress (p .tag)) refl
+unfolding runLength
+param-small p qs h e = go (isAddress (p .tag)) (isHopCounter (p .tag)) refl refl
   where
-    go : (t : Bool) → isAddress (p .tag) ≡ t → runLength qs ≤ 65536
-    go true t =
-        let (w, hw, same) = mapped-inv (λ w. record { tag = p .tag; value = w } ∷ []) (rewriteAddress builtIn (p .tag) (p .value)) (sym (settled-address (p .tag) (p .value) t) ∙ e) in
+    go : (t c : Bool) → isAddress (p .tag) ≡ t → isHopCounter (p .tag) ≡ c → runLength qs ≤ 65536
+    go true c t k =
+        let (w, hw, same) = mapped-inv (λ w. record { tag = p .tag; value = w } ∷ []) (rewriteAddress builtIn (p .tag) (p .value)) (sym (settled-address builtIn p t) ∙ e) in
         let small = rewrite-small (p .tag) (p .value) w hw in
         rw (← same, one-length (record { tag = p .tag; value = w })) (omega arith)
-    go false t =
-        let same : p ∷ [] ≡ qs = accepted-inj (sym (settled-raw (p .tag) (p .value) t) ∙ e) in
+    go false true t k = rw (← accepted-inj (sym (settled-other builtIn p true t k) ∙ e)) (omega arith)
+    go false false t k =
+        let same : p ∷ [] ≡ qs = accepted-inj (sym (settled-other builtIn p false t k) ∙ e) in
         rw (← same, one-length p) (omega arith)
 
 pub sum-small :

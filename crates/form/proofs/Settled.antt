@@ -20,6 +20,7 @@ use Rattle.form.specs.HasForm.{Settles, FirstRefused}
 use Rattle.form.proofs.Family.{Meant, settledOf, meaningOf}
 use Rattle.form.proofs.Forms as F
 use Rattle.form.proofs.Refusals.{mapped-refuses, after-refuses, Accepts, all-iff, through-accepts, through-refuses}
+use Rattle.form.proofs.Settling.{settled-other}
 use Rattle.form.proofs.Sua.{sua, meantBy, settled-plain, settled-framed, meaning-framed, meaning-same, sua-lawful}
 
 module _ (A : Alphabet) (L : Lawful A) where
@@ -97,7 +98,7 @@ module _ (A : Alphabet) where
             (a, ha, (w, d))),
         (λ s. let (a, ha, (w, hw)) = s h in (record { tag = p .tag; value = w } ∷ [], rw (h, ha, hw))),
       )
-      on false h = ((λ _ t. let z : _≡_ {A = ℕ} 0 1 = cc in absurd (omega arith)), (λ s. (p ∷ [], rw h)))
+      on false h = ((λ _ t. let z : _≡_ {A = ℕ} 0 1 = cc in absurd (omega arith)), (λ s. (_, settled-other A p _ h refl)))
 
   module _ (L : Lawful A) (xs : List ℕ) (o : Octets xs) where
     -- Which messages have a form: those that are read, and each of whose addresses is read and written again.
@@ -144,4 +145,4 @@ module _ (A : Alphabet) where
           let (a, b) = mapped-refuses one (after (addressIn A (p .value)) (writeAddress A (p .tag))) n vs in
           let (c, d) = after-refuses (addressIn A (p .value)) (writeAddress A (p .tag)) n vs in
           ((λ e. (h, c (a (rw h at e)))), (λ (_, w). rw h (b (d w))))
-      on false h = ((λ e. absurd (never (sym (rw h at e)))), (λ (t, _). let z : _≡_ {A = ℕ} 0 1 = cc in absurd (omega arith)))
+      on false h = ((λ e. absurd (never (sym e ∙ settled-other A p _ h refl))), (λ (t, _). let z : _≡_ {A = ℕ} 0 1 = cc in absurd (omega arith)))

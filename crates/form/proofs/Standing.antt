@@ -1,4 +1,4 @@
--- The parameters of octets that mean something, beside the parts of the meaning.
+-- The parameters of octets that mean something and have no hop counter, beside the parts of the meaning.
 use Prim.Native.Nat.{ℕ}
 use mathlib.Core.Path.{_≡_, refl, ap, _∙_, subst}
 use mathlib.Core.Bool.{Bool, true, false}
@@ -6,12 +6,13 @@ use mathlib.Core.List.{List, [], _∷_, _++_}
 use native.Mathlib.Omega.{arith}
 use Rattle.bcd.specs.Outcome.{accepted, each, All}
 use Rattle.bcd.specs.Digits.{builtIn}
-use Rattle.bcd.proofs.Outcomes.{accepted-inj, after-inv, mapped-inv, each-inv, bounded-within}
+use Rattle.bcd.proofs.Outcomes.{accepted-inj, mapped-inv, each-inv, bounded-within}
 use Rattle.parameter.specs.Parameter.{Param, Fits}
 use Rattle.address.specs.Address.{Address, addressIn, readAddress}
 use Rattle.address.proofs.Standing.{address-listed}
 use Rattle.message.specs.Message.{Message, readMessage}
 use Rattle.form.specs.Form.{isAddress, Part, raw, address, partIn, Meaning, meaning}
+use Rattle.form.specs.HopCounters.{Kept}
 use Rattle.form.specs.Standing.{AllStand}
 
 -- a value that a parameter holds is read the same with and without 12
@@ -19,12 +20,12 @@ within : (p : Param) → Fits p → readAddress builtIn (p .value) ≡ addressIn
 unfolding readAddress
 within p f = bounded-within (p .value) (addressIn builtIn (p .value)) (omega (arith, f .size))
 
-stand : (ps : List Param) (xs : List Part) → All Fits ps → each (partIn builtIn) ps ≡ accepted xs → AllStand ps xs
+stand : (ps : List Param) (xs : List Part) → All Fits ps → All Kept ps → each (partIn builtIn) ps ≡ accepted xs → AllStand ps xs
 unfolding partIn
-stand [] xs fs e = subst (AllStand []) (accepted-inj e) tt
-stand (p ∷ ps) xs fs e =
+stand [] xs fs ks e = subst (AllStand []) (accepted-inj e) tt
+stand (p ∷ ps) xs fs ks e =
     let (us, vs, hu, hv, j) = each-inv (partIn builtIn) p ps xs e in
-    subst (AllStand (p ∷ ps)) j (on (isAddress (p .tag)) refl us vs hu (stand ps vs (fs .1) hv))
+    subst (AllStand (p ∷ ps)) j (on (isAddress (p .tag)) refl us vs hu (stand ps vs (fs .1) (ks .1) hv))
   where
     on :
         (b : Bool)
@@ -38,17 +39,18 @@ stand (p ∷ ps) xs fs e =
         subst (λ (us : List Part). AllStand (p ∷ ps) (us ++ vs)) k
         ((refl, λ t. address-listed (p .value) a t (fs .0 .octets) (within p (fs .0) ∙ ha)), rest)
     on false h us vs hu rest =
-        let k : raw p ∷ [] ≡ us = accepted-inj (rw h at hu) in
+        let k : raw p ∷ [] ≡ us = accepted-inj (rw (h, ks .0) at hu) in
         subst (λ (us : List Part). AllStand (p ∷ ps) (us ++ vs)) k (refl, rest)
 
--- Octets that mean something are read, and their parameters stand for the parts of the meaning.
+-- Octets that mean something: their parameters stand for the parts of the meaning.
 pub meaning-stands :
-    (xs : List ℕ) (w : Meaning)
-    → ((m : Message) → readMessage xs ≡ accepted m → All Fits (m .params))
+    (xs : List ℕ) (m : Message) (w : Meaning)
+    → readMessage xs ≡ accepted m
+    → All Fits (m .params)
+    → All Kept (m .params)
     → meaning builtIn xs ≡ accepted w
-    → (m : Message) × (readMessage xs ≡ accepted m) × AllStand (m .params) (w .parts)
+    → AllStand (m .params) (w .parts)
 unfolding meaning
-meaning-stands xs w fits e =
-    let (m, hm, e1) = after-inv (readMessage xs) _ e in
-    let (ps, hp, j) = mapped-inv _ (each (partIn builtIn) (m .params)) e1 in
-    (m, hm, stand (m .params) (w .parts) (fits m hm) (hp ∙ ap (λ (w : Meaning). accepted (w .parts)) j))
+meaning-stands xs m w hm fits kept e =
+    let (ps, hp, j) = mapped-inv _ (each (partIn builtIn) (m .params)) (rw hm at e) in
+    stand (m .params) (w .parts) fits kept (hp ∙ ap (λ (w : Meaning). accepted (w .parts)) j)

@@ -16,7 +16,7 @@ use Rattle.message.specs.declared.types.MessageType.{MessageType}
 use Rattle.message.specs.Message.{Message, readMessage, messageOctets, writeMessage}
 use Rattle.message.proofs.Framing.{Framed, readOf, octetsOf}
 use Rattle.message.proofs.Messages.{suaKinds, sua-paired, messageOf, message-framed, octets-framed, message-written}
-use Rattle.form.specs.Form.{isAddress, settledParam, settled, Part, raw, address, partIn, Meaning, meaning}
+use Rattle.form.specs.Form.{isAddress, isHopCounter, settledParam, settled, Part, raw, address, partIn, Meaning, meaning}
 use Rattle.form.proofs.Settling.{settled-unread, settled-read}
 use Rattle.form.proofs.Forms.{rewritten-small}
 use Rattle.form.proofs.Family.{Family, Meant, norm, settledOf, meaningOf, Written, LawfulFamily}
@@ -44,19 +44,20 @@ module _ (A : Alphabet) where
   -- What is settled of a parameter is its meaning written again.
   param-norm : (p : Param) → settledParam A p ≡ norm (sua A) p
   unfolding settledParam partIn rewriteAddress
-  param-norm p = on (isAddress (p .tag)) (addressIn A (p .value))
+  param-norm p = on (isAddress (p .tag)) (isHopCounter (p .tag)) (addressIn A (p .value))
     where
       one : (o : Outcome (List ℕ)) → mapped (tagged (p .tag)) o ≡ after (mapped (tagged (p .tag)) o) (λ us. accepted (us ++ []))
       one (accepted w) = refl
       one (refused n vs) = refl
 
       on :
-          (t : Bool) (o : Outcome Address)
-          → pick t (mapped (tagged (p .tag)) (after o (writeAddress A (p .tag)))) (accepted (p ∷ []))
-          ≡ after (pick t (mapped (λ a. address (p .tag) a ∷ []) o) (accepted (raw p ∷ []))) (each (writePart A))
-      on true (accepted a) = one (writeAddress A (p .tag) a)
-      on true (refused n vs) = refl
-      on false o = refl
+          (t c : Bool) (o : Outcome Address)
+          → pick t (mapped (tagged (p .tag)) (after o (writeAddress A (p .tag)))) (accepted (pick c [] (p ∷ [])))
+          ≡ after (pick t (mapped (λ a. address (p .tag) a ∷ []) o) (accepted (pick c [] (raw p ∷ [])))) (each (writePart A))
+      on true c (accepted a) = one (writeAddress A (p .tag) a)
+      on true c (refused n vs) = refl
+      on false true o = refl
+      on false false o = refl
 
   params-norm : (ps : List Param) → each (settledParam A) ps ≡ each (norm (sua A)) ps
   params-norm [] = refl
@@ -108,9 +109,9 @@ module _ (A : Alphabet) where
       back (accepted m) = refl
       back (refused n vs) = refl
 
-  mean-raw : (p : Param) → isAddress (p .tag) ≡ false → partIn A p ≡ accepted (raw p ∷ [])
+  mean-other : (p : Param) (c : Bool) → isAddress (p .tag) ≡ false → isHopCounter (p .tag) ≡ c → partIn A p ≡ accepted (pick c [] (raw p ∷ []))
   unfolding partIn
-  mean-raw p h = rw h
+  mean-other p c h k = rw (h, k)
 
   mean-address :
       (tag : ℕ) (w : List ℕ) (a : Address)
@@ -130,8 +131,8 @@ module _ (A : Alphabet) where
       let (w, hw, ew) = mapped-inv (tagged tag) (writeAddress A tag a) hu in
       (w, hw, ap₂ _++_ ew (accepted-inj hv) ∙ i)
 
-  -- From an address that was read, what is written fits, takes no more room and reads as that address; any other parameter
-  -- is written as it is.
+  -- From an address that was read, what is written fits, takes no more room and reads as that address; a hop counter is
+  -- not written; any other parameter is written as it is.
   writes :
       Lawful A
       → (p : Param) (ms : List Part) (qs : List Param)
@@ -140,10 +141,10 @@ module _ (A : Alphabet) where
       → each (writePart A) ms ≡ accepted qs
       → Written (sua A) p ms qs
   unfolding runLength partIn
-  writes L p ms qs f e d = on (isAddress (p .tag)) refl
+  writes L p ms qs f e d = on (isAddress (p .tag)) (isHopCounter (p .tag)) refl refl
     where
-      on : (t : Bool) → isAddress (p .tag) ≡ t → Written (sua A) p ms qs
-      on true h =
+      on : (t c : Bool) → isAddress (p .tag) ≡ t → isHopCounter (p .tag) ≡ c → Written (sua A) p ms qs
+      on true c h k =
           let (a, ha, m) = mapped-inv (λ a. address (p .tag) a ∷ []) (addressIn A (p .value)) (rw h at e) in
           let (w, hw, q) = address-written (p .tag) a qs (ap (each (writePart A)) m ∙ d) in
           let r = rewritten A L (p .tag) (p .value) w a (f .octets) ha hw in
@@ -153,13 +154,17 @@ module _ (A : Alphabet) where
             room = omega (arith, r .room);
             reads = each-cons (partIn A) new [] (address (p .tag) a ∷ []) [] (mean-address (p .tag) w a h (r .reads)) refl;
           })
-      on false h =
-          let m : raw p ∷ [] ≡ ms = accepted-inj (sym (mean-raw p h) ∙ e) in
+      on false true h k =
+          let m : [] ≡ ms = accepted-inj (sym (mean-other p true h k) ∙ e) in
+          let q : [] ≡ qs = accepted-inj (ap (each (writePart A)) m ∙ d) in
+          subst₂ (Written (sua A) p) m q (record { fits = tt; room = omega arith; reads = refl })
+      on false false h k =
+          let m : raw p ∷ [] ≡ ms = accepted-inj (sym (mean-other p false h k) ∙ e) in
           let q : p ∷ [] ≡ qs = accepted-inj (ap (each (writePart A)) m ∙ d) in
           subst₂ (Written (sua A) p) m q (record {
             fits = (f, tt);
             room = omega arith;
-            reads = each-cons (partIn A) p [] (raw p ∷ []) [] (mean-raw p h) refl;
+            reads = each-cons (partIn A) p [] (raw p ∷ []) [] (mean-other p false h k) refl;
           })
 
   pub sua-lawful : Lawful A → LawfulFamily (sua A)

@@ -8,7 +8,7 @@ use Rattle.address.specs.Address.{titleIn, writeTitle, pieceIn, addressWith, ad
 use Rattle.message.specs.Types.{fromClassType}
 use Rattle.message.specs.Message.{readHeader, readMessage, messageOctets, writeMessage}
 use Rattle.form.specs.Form.{settledParam, settled}
-use Rattle.form.specs.Worked.{Holds, starred, unsettled}
+use Rattle.form.specs.Worked.{Holds, starred, unsettled, counters}
 
 pub worked : All Holds starred
 unfolding settled settledParam readMessage readHeader messageOctets writeMessage fromClassType parameters places steps stepAt headed twoAt runOctets paramOctets encodeParam readAddress addressIn addressWith rewriteAddress writeAddress pieceIn pieces subParam indicator titleIn writeTitle readDigits digitsIn halves writeDigits pack
@@ -17,3 +17,7 @@ worked = (refl, (refl, (refl, (refl, (refl, (refl, (refl, (refl, (refl, (refl, (
 pub worked-addresses : All Holds unsettled
 unfolding settled settledParam readMessage readHeader messageOctets writeMessage fromClassType parameters places steps stepAt headed twoAt runOctets paramOctets encodeParam readAddress addressIn addressWith rewriteAddress writeAddress pieceIn pieces subParam indicator titleIn writeTitle readDigits digitsIn halves writeDigits pack
 worked-addresses = (refl, (refl, (refl, tt)))
+
+pub worked-counters : All Holds counters
+unfolding settled settledParam readMessage readHeader messageOctets writeMessage fromClassType parameters places steps stepAt headed twoAt runOctets paramOctets encodeParam
+worked-counters = (refl, (refl, (refl, (refl, tt))))

@@ -15,28 +15,37 @@ use Rattle.message.specs.Message.{message, readMessage, writeMessage}
 abbrev pub isAddress : ℕ → Bool
 isAddress tag = eqb tag 0x0102 || eqb tag 0x0103
 
--- A parameter with its value: an address replaced by the address read and written again. A value has too few octets for 12.
+-- The tag of the SS7 hop counter (RFC 3868, 3.10.1), which falls at each title translation: no form and no meaning has it
+-- (document 02, CR 3).
+abbrev pub isHopCounter : ℕ → Bool
+isHopCounter tag = eqb tag 0x0101
+
+-- What the form has of a parameter: of an address, its value read and written again; of a hop counter, nothing; of any
+-- other, the parameter as it is. A value has too few octets for 12.
 unfoldable pub settledParam : Alphabet → Param → Outcome (List Param)
 settledParam A p =
     pick (isAddress (p .tag)) (mapped (λ w. param (p .tag) w ∷ []) (rewriteAddress A (p .tag) (p .value)))
-    (accepted (p ∷ []))
+    (accepted (pick (isHopCounter (p .tag)) [] (p ∷ [])))
 
--- The settled form: the message is read, each address in wire order is read and written again, and the message is
--- encoded. Reading's refusals, then for each address its reading's, 9, 10 (document 01, 'Order'); of octets, encoding
--- refuses nothing more (`has-form`).
+-- The settled form: the message is read, each address in wire order is read and written again, each hop counter is left
+-- out, and the message is encoded. Reading's refusals, then for each address its reading's, 9, 10 (document 01, 'Order');
+-- of octets, encoding refuses nothing more (`has-form`).
 unfoldable pub settled : Alphabet → List ℕ → Outcome (List ℕ)
 settled A xs =
     after (readMessage xs) (λ m.
     after (each (settledParam A) (m .params)) (λ ps.
     writeMessage (message (m .type) ps)))
 
--- What a parameter means: its tag with its value, or with the address that its value is read as.
+-- What a parameter means: its tag with its value, or with the address that its value is read as. A hop counter means
+-- nothing.
 pub data Part : Type 0 where
   raw : Param → Part
   address : (tag : ℕ) → Address → Part
 
 unfoldable pub partIn : Alphabet → Param → Outcome (List Part)
-partIn A p = pick (isAddress (p .tag)) (mapped (λ a. address (p .tag) a ∷ []) (addressIn A (p .value))) (accepted (raw p ∷ []))
+partIn A p =
+    pick (isAddress (p .tag)) (mapped (λ a. address (p .tag) a ∷ []) (addressIn A (p .value)))
+    (accepted (pick (isHopCounter (p .tag)) [] (raw p ∷ [])))
 
 -- The meaning of a message: its type and, in wire order, what each parameter means.
 pub record Meaning : Type 0 where

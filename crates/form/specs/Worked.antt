@@ -1,4 +1,5 @@
--- The worked messages: the starred ones of document 01, S1 to S12, and messages with both addresses.
+-- The worked messages: the starred ones of document 01, S1 to S12, messages with both addresses, and messages with hop
+-- counters.
 use Prim.Native.Nat.{ℕ}
 use mathlib.Core.Path.{_≡_}
 use mathlib.Core.Bool.{true}
@@ -7,10 +8,10 @@ use mathlib.Core.List.{List, [], _∷_, _++_}
 use lib.ListN.{take}
 use Rattle.bcd.specs.Outcome.{Outcome, accepted, refused}
 use Rattle.bcd.specs.Digits.{builtIn, readDigits, writeDigits}
-use Rattle.parameter.specs.Parameter.{four}
+use Rattle.parameter.specs.Parameter.{param, four}
 use Rattle.address.specs.Address.{Address, readAddress}
 use Rattle.message.specs.declared.types.MessageType.the-variants as T
-use Rattle.message.specs.Message.{Message, readMessage}
+use Rattle.message.specs.Message.{Message, message, readMessage}
 use Rattle.form.specs.Form.{settled}
 
 -- What is given to a call, and what it gives.
@@ -98,4 +99,19 @@ unsettled =
     ∷ 0x01020020 ∷ 0x000100FD ∷ 0x8001000F ∷ 0x12345604 ∷ 0x03000104 ∷ 0x21A35544 ∷ 0x80030008 ∷ 0x77777708
     ∷ 0x01030018 ∷ 0x0002000B ∷ 0x80030008 ∷ 0xFEFEFE06 ∷ 0x80020008 ∷ 0x00012345 ∷ []))
     (accepted settledCldt)
+    ∷ []
+
+-- A CLDT with `Hi`, between two hop counters.
+abbrev pub counted : List ℕ
+counted = words (0x01000701 ∷ 0x00000020 ∷ 0x01010008 ∷ 0x0000000F ∷ 0x010B0006 ∷ 0x48690000 ∷ 0x01010008 ∷ 0x0000000E ∷ [])
+
+-- Reading gives every hop counter, and no form has one. A hop counter is refused where any parameter is.
+abbrev pub counters : List Example
+counters =
+    reads counted
+    (accepted (message T.Cldt (param 0x0101 (0 ∷ 0 ∷ 0 ∷ 15 ∷ []) ∷ param 0x010B (0x48 ∷ 0x69 ∷ []) ∷ param 0x0101 (0 ∷ 0 ∷ 0 ∷ 14 ∷ []) ∷ [])))
+    ∷ settles counted (accepted (words (0x01000701 ∷ 0x00000010 ∷ 0x010B0006 ∷ 0x48690000 ∷ [])))
+    -- nothing but hop counters: of no octets, and of one octet without its padding
+    ∷ settles (words (0x01000701 ∷ 0x00000011 ∷ 0x01010004 ∷ 0x01010005 ∷ []) ++ 0x0F ∷ []) (accepted (words (0x01000701 ∷ 0x00000008 ∷ [])))
+    ∷ settles (words (0x01000701 ∷ 0x0000000C ∷ 0x01010008 ∷ [])) (refused 6 (0x0101 ∷ 8 ∷ 4 ∷ []))
     ∷ []

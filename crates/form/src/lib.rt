@@ -30,7 +30,7 @@ pub fn is_address(tag: u16) -> bool
     }
 }
 
-// What a parameter takes in the form. An address's refusals, 9, 10.
+// What a parameter takes in the form; a hop counter is left out. An address's refusals, 9, 10.
 fn settled_length_of(tag: u16, value: &[u8]) -> Counted
     requires { ⌜ length (now value) ≤ mostValue ⌝ }
     ensures { λ r. ⌜ countedOf r ≡ mapped runLength (settledParam builtIn (param tag (now (value .entry)))) ⌝ }
@@ -40,6 +40,9 @@ fn settled_length_of(tag: u16, value: &[u8]) -> Counted
             Counted::Refused(r) => Counted::Refused(r),
             Counted::Count(n) => parameter::wire_length(tag, n),
         };
+    }
+    if tag == tags::SS7_HOP_COUNTER {
+        return Counted::Count(0);
     }
     parameter::wire_length(tag, value.len())
 }
@@ -108,7 +111,7 @@ pub fn settled_length(input: &[u8]) -> Counted
     }
 }
 
-// Writes a parameter's part of the form, for which there is room, and answers its length.
+// Writes a parameter's part of the form, for which there is room, and answers its length; a hop counter has none.
 fn put_settled(tag: u16, value: &[u8], out: &mut [u8]) -> usize
     requires { ⌜ length (now value) ≤ mostValue ⌝ }
     requires { ⌜ Placeable (param tag (now value)) (length (now out)) ⌝ }
@@ -122,6 +125,9 @@ fn put_settled(tag: u16, value: &[u8], out: &mut [u8]) -> usize
         };
         parameter::frame(tag, n, out);
         return (n + 7) / 4 * 4;
+    }
+    if tag == tags::SS7_HOP_COUNTER {
+        return 0;
     }
     parameter::encode(tag, value, out);
     (value.len() + 7) / 4 * 4

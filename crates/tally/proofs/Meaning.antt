@@ -6,7 +6,7 @@ use mathlib.Core.Logic.{_⊎_, ⊎-elim, inl, inr}
 use mathlib.Core.Option.{Option, none, some}
 use mathlib.Core.List.{List, [], _∷_, _++_, map}
 use native.Mathlib.Omega.{arith}
-use borrow.Author.Tests.{ne-eqb}
+use borrow.Author.Tests.{eqb-true, ne-eqb}
 use lib.Dec.{eqb}
 use lib.ListN.{length, getD, take, drop}
 use Rattle.bcd.specs.Outcome.{accepted, pick, mapped, each, All, most}
@@ -24,19 +24,19 @@ use Rattle.address.specs.Address.{Address, addressIn}
 use Rattle.message.specs.Types.{classOf, typeOf}
 use Rattle.message.specs.Message.{readMessage}
 use Rattle.message.proofs.Messages.{message-inv}
-use Rattle.form.specs.Form.{isAddress, Part, raw, address, partIn, Meaning, meaning}
+use Rattle.form.specs.Form.{isAddress, isHopCounter, Part, raw, address, partIn, Meaning, meaning}
 use Rattle.form.proofs.Tags.{address-tags}
 use Rattle.form.proofs.Demand3.{read-back}
 use Rattle.tally.specs.Tally.{isCldt, dataLength, destination}
 use Rattle.tally.specs.Steps.Walks.{Walks, Reads, Formed}
 use Rattle.tally.proofs.Looking.{walked-found, first-inside}
 
--- A parameter is an address that is read, or stays raw.
+-- A parameter is an address that is read; or it is a hop counter, of which nothing is kept, or stays raw.
 pub part-inv :
     (p : Param) (us : List Part)
     → partIn builtIn p ≡ accepted us
     → ((isAddress (p .tag) ≡ true) × (a : Address) × (addressIn builtIn (p .value) ≡ accepted a) × (address (p .tag) a ∷ [] ≡ us))
-    ⊎ ((isAddress (p .tag) ≡ false) × (raw p ∷ [] ≡ us))
+    ⊎ ((isAddress (p .tag) ≡ false) × (pick (isHopCounter (p .tag)) [] (raw p ∷ []) ≡ us))
 unfolding partIn
 part-inv p us e = on (isAddress (p .tag)) refl
   where
@@ -44,7 +44,7 @@ part-inv p us e = on (isAddress (p .tag)) refl
         (b : Bool)
         → isAddress (p .tag) ≡ b
         → ((isAddress (p .tag) ≡ true) × (a : Address) × (addressIn builtIn (p .value) ≡ accepted a) × (address (p .tag) a ∷ [] ≡ us))
-        ⊎ ((isAddress (p .tag) ≡ false) × (raw p ∷ [] ≡ us))
+        ⊎ ((isAddress (p .tag) ≡ false) × (pick (isHopCounter (p .tag)) [] (raw p ∷ []) ≡ us))
     on true h =
         let (a, ha, k) = mapped-inv (λ (a : Address). address (p .tag) a ∷ []) (addressIn builtIn (p .value)) (rw h at e) in
         inl (h, a, ha, k)
@@ -57,6 +57,23 @@ address-no-data tag h = ne-eqb tag 0x010B (λ e. ⊎-elim (λ f. omega arith) (�
 raw-no-destination : (tag : ℕ) → isAddress tag ≡ false → eqb tag 0x0103 ≡ false
 raw-no-destination tag h =
     ne-eqb tag 0x0103 (λ e. let t = address-tags tag .1 (inr e) in let z : _≡_ {A = ℕ} 0 1 = cc in omega arith)
+
+-- a hop counter, of which there is no part, is neither
+pub other-data :
+    (p : Param) (vs : List Part)
+    → dataLength (pick (isHopCounter (p .tag)) [] (raw p ∷ []) ++ vs) ≡ pick (eqb (p .tag) 0x010B) (length (p .value)) (dataLength vs)
+other-data p vs = on (isHopCounter (p .tag)) refl
+  where
+    on :
+        (c : Bool)
+        → isHopCounter (p .tag) ≡ c
+        → dataLength (pick c [] (raw p ∷ []) ++ vs) ≡ pick (eqb (p .tag) 0x010B) (length (p .value)) (dataLength vs)
+    on true h = rw (eqb-true (p .tag) 0x0101 h)
+    on false h = refl
+
+other-destination : (p : Param) (c : Bool) (vs : List Part) → destination vs ≡ destination (pick c [] (raw p ∷ []) ++ vs)
+other-destination p true vs = refl
+other-destination p false vs = refl
 
 abbrev pub lengthAt : Option Place → ℕ
 lengthAt none = 0
@@ -88,8 +105,14 @@ module _ (xs : List ℕ) where
       kept : (us vs : List Part) {a : Address} → isAddress (p .tag) ≡ true → address (p .tag) a ∷ [] ≡ us → dataLength (us ++ vs) ≡ pick (eqb (p .tag) 0x010B) (p .length) (dataLength vs)
       kept us vs t k = rw (← k, address-no-data (p .tag) t)
 
-      first : (us vs : List Part) → raw (valued xs p) ∷ [] ≡ us → dataLength (us ++ vs) ≡ pick (eqb (p .tag) 0x010B) (p .length) (dataLength vs)
-      first us vs k = rw (← k, value-length xs p (h .0))
+      first :
+          (us vs : List Part)
+          → pick (isHopCounter (p .tag)) [] (raw (valued xs p) ∷ []) ≡ us
+          → dataLength (us ++ vs) ≡ pick (eqb (p .tag) 0x010B) (p .length) (dataLength vs)
+      first us vs k =
+          ap (λ (us : List Part). dataLength (us ++ vs)) (sym k)
+          ∙ other-data (valued xs p) vs
+          ∙ ap (λ n. pick (eqb (p .tag) 0x010B) n (dataLength vs)) (value-length xs p (h .0))
 
   destination-first :
       (ps : List Place) (parts : List Part)
@@ -117,10 +140,11 @@ module _ (xs : List ℕ) where
       kept :
           (us vs : List Part)
           → isAddress (p .tag) ≡ false
-          → raw (valued xs p) ∷ [] ≡ us
+          → pick (isHopCounter (p .tag)) [] (raw (valued xs p) ∷ []) ≡ us
           → ReadAt xs (firstWith 0x0103 ps) (destination vs)
           → ReadAt xs (firstWith 0x0103 (p ∷ ps)) (destination (us ++ vs))
-      kept us vs t k ih = rw (← k, raw-no-destination (p .tag) t) ih
+      kept us vs t k ih =
+          rw (← k, ← other-destination (valued xs p) (isHopCounter (p .tag)) vs, raw-no-destination (p .tag) t) ih
 
 -- Octets that mean something: their class and type, the places of their parameters, and what these mean.
 pub record Means (xs : List ℕ) (w : Meaning) : Type 0 where

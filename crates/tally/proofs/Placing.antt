@@ -22,7 +22,7 @@ use Rattle.tally.specs.Members.{same, reach, placeOf, longest}
 use Rattle.tally.specs.Rows.{gain}
 use Rattle.tally.specs.Tally.{isCldt, dataLength, destination, titleRow, destinationRow, meant, orElse, placed}
 use Rattle.tally.specs.Steps.Walks.{Formed}
-use Rattle.tally.proofs.Meaning.{part-inv}
+use Rattle.tally.proofs.Meaning.{part-inv, other-data}
 
 place-within : (x : List ℕ) (ps : List (List ℕ)) → placeOf x ps ≤ length ps
 place-within x [] = omega arith
@@ -82,7 +82,7 @@ data-small (p ∷ ps) xs fs e =
     let (us, vs, hu, hv, j) = each-inv (partIn builtIn) p ps xs e in
     let small = data-small ps vs (fs .1) hv in
     subst (λ (xs : List Part). dataLength xs ≤ mostValue) j
-    (⊎-elim (λ (t, a, ha, k). rw (← k) small) (λ (t, k). rw (← k) (first (eqb (p .tag) 0x010B) vs small)) (part-inv p us hu))
+    (⊎-elim (λ (t, a, ha, k). rw (← k) small) (λ (t, k). rw (← k, other-data p vs) (first (eqb (p .tag) 0x010B) vs small)) (part-inv p us hu))
   where
     first : (b : Bool) (vs : List Part) → dataLength vs ≤ mostValue → pick b (length (p .value)) (dataLength vs) ≤ mostValue
     first true vs h = fs .0 .size

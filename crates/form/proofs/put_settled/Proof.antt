@@ -1,4 +1,4 @@
--- `form::put_settled` meets its contract, for an address and for any other parameter.
+-- `form::put_settled` meets its contract, for an address, a hop counter and any other parameter.
 use Prim.Native.Nat.{ℕ, _≤_}
 use mathlib.Core.Path.{_≡_, refl, sym, ap, _∙_}
 use mathlib.Core.List.{List}
@@ -11,8 +11,9 @@ use Rattle.bcd.proofs.Outcomes.{accepted-inj, never}
 use Rattle.parameter.specs.Parameter.{paddedLength, mostValue}
 use Rattle.address.specs.Address.{rewriteAddress}
 use Rattle.form.proofs.Passes.{rewrite-small}
-use Rattle.form.proofs.Placing.{placeable-address, placeable-raw, raw-placed, rewritten-there, address-put}
+use Rattle.form.proofs.Placing.{placeable-address, placeable-raw, counter-placed, raw-placed, rewritten-there, address-put}
 use borrow.Author.Needs.{needs}
+use borrow.Author.Tests.{eq-eqb, ne-eqb}
 use Rattle.form.proofs.put_settled.Statement.{statement}
 use Rattle.form.proofs.put_settled.Tie as tie
 
@@ -100,6 +101,11 @@ returns-2 c =
     let there = rewritten-there (s .args .tag) (s .args .value .now) (w .0) (s .args .out .now) _ _ (s .pre .0) (w .1) (w .2) (r .rewrite-as-read .ensures) in
     address-put (s .args .tag) (s .args .value .now) (w .0) (s .args .out .now) _ _ (k .before .n .given .0 .0) _ (sym (t .before .is-address .ensures) ∙ t .if1 .taken) (w .1) (sized k) refl (w .2) (there .1) (f .frame .ensures)
 
+returns-3 : tie.Need-returns-3
+returns-3 c =
+    let s = c .before .before .before .before .before in
+    counter-placed (s .args .tag) (s .args .value .now) (s .args .out .now) (eq-eqb _ _ (c .if2 .taken))
+
 encode-requires : tie.Need-encode-requires
 encode-requires c κs = search needs
 
@@ -112,15 +118,17 @@ mul-result-2 c = search needs
 same-length-3 : tie.Need-same-length-3
 same-length-3 c = search needs
 
-returns-3 : tie.Need-returns-3
-returns-3 c =
+returns-4 : tie.Need-returns-4
+returns-4 c =
     let e = c .before .before in
-    let t = e .before .before in
+    let k = e .before .before in
+    let t = k .before in
     let s = t .before .before .before .before in
     let v = s .args .value .now in
     let plain = sym (t .before .is-address .ensures) ∙ t .if1 .left in
-    let room = placeable-raw (s .args .tag) v (length (s .args .out .now)) plain (s .pre .1) in
-    raw-placed (s .args .tag) v (s .args .out .now) _ _ plain (s .pre .0) (omega arith) room (e .encode .ensures)
+    let kept = ne-eqb _ _ (k .if2 .left) in
+    let room = placeable-raw (s .args .tag) v (length (s .args .out .now)) plain kept (s .pre .1) in
+    raw-placed (s .args .tag) v (s .args .out .now) _ _ plain kept (s .pre .0) (omega arith) room (e .encode .ensures)
 
 pub put-settled-spec : {M : Type 1} → statement M
 put-settled-spec =
@@ -140,8 +148,9 @@ put-settled-spec =
     mul-result
     same-length-2
     returns-2
+    returns-3
     encode-requires
     add-result-2
     mul-result-2
     same-length-3
-    returns-3)
+    returns-4)

@@ -1,6 +1,7 @@
 //! settle, read and encode through the archive, beside the Rust: answers, reports, octets, and what is left alone.
 
 use crate::calls::report;
+use crate::counters;
 use crate::messages;
 use crate::oracle::{account, deliver, encode_flat, form, Answer};
 use crate::random::Random;
@@ -69,9 +70,12 @@ impl Entry {
     }
 }
 
-/// How often each answer came: 0 for acceptance, else the refusal's number.
+/// How often each answer came, 0 for acceptance, else the refusal's number; and each kind of hop counters, settled.
 #[derive(Default)]
-pub struct Seen(BTreeMap<&'static str, BTreeMap<u64, u64>>);
+struct Seen {
+    answers: BTreeMap<&'static str, BTreeMap<u64, u64>>,
+    counters: BTreeMap<&'static str, u64>,
+}
 
 /// An output's length: just enough, one less, none, or some.
 fn room(r: &mut Random, needed: usize) -> usize {
@@ -84,13 +88,17 @@ fn room(r: &mut Random, needed: usize) -> usize {
     }
 }
 
-/// Calls the entry and the Rust; None where they agree.
-fn differs(r: &mut Random, entry: Entry, input: &[u8], seen: &mut Seen) -> Option<String> {
-    let expected = entry.expected(input);
+/// Calls the entry, which must answer so; None where it does.
+fn differs(r: &mut Random, entry: Entry, input: &[u8], expected: Answer<Vec<u8>>, seen: &mut Seen) -> Option<String> {
     let needed = expected.as_ref().map_or(64, Vec::len);
     let fill = r.octet();
     let mut held = vec![fill; room(r, needed)];
     let mut out = held.clone();
+    if matches!(entry, Entry::Settle) {
+        for kind in counters::kinds(input, &expected, held.len()) {
+            *seen.counters.entry(kind).or_default() += 1;
+        }
+    }
     let answer = deliver(expected, &mut held);
     let numbers = report(&answer);
     let mut lent = [77u64; 6];
@@ -99,7 +107,7 @@ fn differs(r: &mut Random, entry: Entry, input: &[u8], seen: &mut Seen) -> Optio
     let mut wanted = [77u64; 6];
     let stored = places.min(4);
     wanted[..stored].copy_from_slice(&numbers[..stored]);
-    *seen.0.entry(entry.name()).or_default().entry(numbers[0]).or_default() += 1;
+    *seen.answers.entry(entry.name()).or_default().entry(numbers[0]).or_default() += 1;
     if number == numbers[0] && lent == wanted && out == held {
         return None;
     }
@@ -144,18 +152,28 @@ pub fn flat(r: &mut Random, large_once_in: usize) -> Vec<u8> {
     out
 }
 
-/// Compares so many random messages and lists; true where none differs.
+/// Compares so many random messages and lists, and copies of the messages that differ in hop counters alone; true where none
+/// differs.
 pub fn compare(count: u64, seed: u64) -> bool {
     let mut seen = Seen::default();
-    let mut differences = 0;
+    let (mut made, mut differences) = (0, 0);
     for i in 0..count {
         let mut r = Random::new(seed.wrapping_add(i).wrapping_mul(0xD134_2543_DE82_EF95));
-        let input = if r.once_in(10_000) { messages::large(&mut r) } else { messages::message(&mut r) };
+        let input = if r.once_in(10_000) { counters::large(&mut r) } else { messages::message(&mut r) };
         let (class, msg_type) = messages::any_pair(&mut r);
         let list = flat(&mut r, 2_000);
-        let calls = [(Entry::Settle, &input), (Entry::Read, &input), (Entry::Encode(class, msg_type), &list)];
-        for (entry, octets) in calls {
-            if let Some(difference) = differs(&mut r, entry, octets, &mut seen) {
+        let encode = Entry::Encode(class, msg_type);
+        let mut calls: Vec<(Entry, &[u8], Answer<Vec<u8>>)> =
+            [(Entry::Settle, &input), (Entry::Read, &input), (encode, &list)].map(|(e, i)| (e, &**i, e.expected(i))).into();
+        let copy = counters::copy(&mut r, &input);
+        if let Some(copy) = &copy {
+            // Its form, or its refusal, is the message's.
+            calls.push((Entry::Settle, copy, form(&input)));
+            calls.push((Entry::Read, copy, account(copy)));
+        }
+        made += calls.len();
+        for (entry, octets, expected) in calls {
+            if let Some(difference) = differs(&mut r, entry, octets, expected, &mut seen) {
                 differences += 1;
                 if differences <= 5 {
                     println!("message {i} of seed {seed}: {difference}");
@@ -166,7 +184,7 @@ pub fn compare(count: u64, seed: u64) -> bool {
     let mut unseen = Vec::new();
     for entry in [Entry::Settle, Entry::Read, Entry::Encode(0, 0)] {
         let name = entry.name();
-        let counts = seen.0.remove(name).unwrap_or_default();
+        let counts = seen.answers.remove(name).unwrap_or_default();
         let listed: Vec<String> = counts.iter().filter(|(n, _)| **n > 0).map(|(n, c)| format!("{n}: {c}")).collect();
         println!("archive, {name}: {} accepted; refused {}", counts.get(&0).unwrap_or(&0), listed.join(", "));
         unseen.extend(entry.refusals().iter().filter(|n| !counts.contains_key(n)).map(|n| format!("{name} {n}")));
@@ -175,6 +193,13 @@ pub fn compare(count: u64, seed: u64) -> bool {
         println!("archive: never refused as {}", unseen.join(", "));
         differences += 1;
     }
-    println!("archive: {} calls, {differences} differences", 3 * count);
+    let times = |kind: &&str| seen.counters.get(kind).copied().unwrap_or(0);
+    let listed: Vec<String> = counters::KINDS.iter().map(|kind| format!("{kind}: {}", times(kind))).collect();
+    println!("archive, hop counters: {}", listed.join(", "));
+    for kind in counters::KINDS.iter().filter(|kind| count >= 1_000_000 && times(kind) == 0) {
+        println!("archive, hop counters: never met: {kind}");
+        differences += 1;
+    }
+    println!("archive: {made} calls, {differences} differences");
     differences == 0
 }

@@ -2,6 +2,7 @@
 
 use crate::calls::{answer, screened, Call, BETWEEN, SCREENED};
 use crate::messages;
+use crate::oracle::length_with_counters;
 use crate::random::Random;
 
 /// The calls, and the refusals that each can give. A call's place chooses what is recorded of it, so a new one goes last.
@@ -672,8 +673,12 @@ pub fn fit_screen(r: &mut Random, call: &mut Call) {
     }
 }
 
-/// What a call needs lent: what it refuses nothing as 13 or 14 for.
+/// What a call needs lent: what it refuses nothing as 13 or 14 for. `settle` is lent room for the hop counters too, so that one
+/// which is left out but counted, or written behind the form, is seen.
 fn needed(call: &Call, at: usize, table: bool) -> usize {
+    if call.name == "settle" {
+        return length_with_counters(&call.octets[0]).unwrap_or(0);
+    }
     let mut asked = call.clone();
     for place in at..at + if table { 3 } else { 1 } {
         asked.numbers[place] = 0;

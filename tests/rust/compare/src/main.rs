@@ -3,6 +3,7 @@
 mod archive;
 mod bench;
 mod calls;
+mod counters;
 mod generate;
 mod messages;
 mod oracle;

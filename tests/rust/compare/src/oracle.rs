@@ -1,5 +1,6 @@
 //! What the Rust answers, in document 01's numbers. Where document 01 refuses what the Rust goes on with (10, 11, 12) or
-//! cannot meet (13, 14, 15), the answer is document 01's.
+//! cannot meet (13, 14, 15), the answer is document 01's. The Rust has no settled form: what stands for it is what it encodes
+//! of a message that it read, without the hop counters (document 02, CR 3).
 
 use sua::address::{GlobalTitle, SuaAddress};
 use sua::error::SuaError;
@@ -89,6 +90,11 @@ pub fn is_address(tag: u16) -> bool {
     tag == tags::SOURCE_ADDRESS || tag == tags::DESTINATION_ADDRESS
 }
 
+/// Whether a parameter is an SS7 hop counter.
+pub fn is_hop_counter(tag: u16) -> bool {
+    tag == tags::SS7_HOP_COUNTER
+}
+
 /// Whether a sub-parameter is no title, point code or SSN.
 pub fn is_other(tag: u16) -> bool {
     !matches!(tag, tags::GLOBAL_TITLE | tags::POINT_CODE | tags::SUBSYSTEM_NUMBER)
@@ -114,15 +120,27 @@ pub fn write_address(tag: u16, address: &SuaAddress) -> Answer<Vec<u8>> {
     Ok(value)
 }
 
-/// The settled form: read the message, read and write each address again, encode.
-pub fn form(bytes: &[u8]) -> Answer<Vec<u8>> {
+/// A message read, and each address in it read and written again.
+fn rewritten(bytes: &[u8]) -> Answer<SuaMessage> {
     let mut message = read_message(bytes)?;
     for p in &mut message.parameters {
         if is_address(p.tag) {
             p.value = write_address(p.tag, &SuaAddress::decode(&p.value)?)?;
         }
     }
+    Ok(message)
+}
+
+/// The settled form: such a message without its hop counters, encoded.
+pub fn form(bytes: &[u8]) -> Answer<Vec<u8>> {
+    let mut message = rewritten(bytes)?;
+    message.parameters.retain(|p| !is_hop_counter(p.tag));
     Ok(message.encode())
+}
+
+/// The octets that it takes with its hop counters.
+pub fn length_with_counters(bytes: &[u8]) -> Answer<usize> {
+    Ok(rewritten(bytes)?.encode().len())
 }
 
 fn put_place(out: &mut Vec<u8>, (tag, start, length): Place) {

@@ -1,5 +1,6 @@
 //! Messages through bindings/rust, beside the Rust: typed parameters and addresses, forms, and messages written.
 
+use crate::counters;
 use crate::messages;
 use crate::oracle::{account, encode_flat, form, is_address, read_message, Answer};
 use crate::random::Random;
@@ -66,7 +67,10 @@ pub fn compare(count: u64, seed: u64) -> bool {
     let mut differences = 0;
     for i in 0..count {
         let mut r = Random::new(seed.wrapping_add(i).wrapping_mul(0xE703_7ED1_A0B4_28DB));
-        let input = if r.once_in(10_000) { messages::large(&mut r) } else { messages::message(&mut r) };
+        let mut input = if r.once_in(10_000) { messages::large(&mut r) } else { messages::message(&mut r) };
+        if r.once_in(2) {
+            input = counters::copy(&mut r, &input).unwrap_or(input);
+        }
         let (class, msg_type) = messages::any_pair(&mut r);
         let list = messages::list(&mut r, true, true);
         if !same_reading(&input) || !same_writing(&input, class, msg_type, &list) {

@@ -2,6 +2,9 @@
 
 use super::*;
 
+/// A CLDT with a hop counter and nothing else.
+const COUNTED: &str = "x0100070100000010010100080000000f";
+
 /// A message that is read, and what reading and settling it answer.
 fn read(input: &'static str, message: &'static str, said: &'static str, answer: &str, form: &str) -> Row {
     row(input, move || SuaMessage::decode(&octets(message)), said)
@@ -41,6 +44,18 @@ pub fn rows() -> Vec<Row> {
             "ok 7 1 0 t s l",
             "ok 8 x0100070100000008",
         ),
+        row(
+            "a hop counter (`01 00 07 01 00 00 00 10 01 01 00 08 00 00 00 0F`)",
+            || SuaMessage::decode(&octets(COUNTED)).map(|message| message.encode()),
+            COUNTED,
+        )
+        .port(format!("settle 16 {COUNTED}"), "ok 8 x0100070100000008+ee*8")
+        .port(format!("settle 8 {COUNTED}01010004010100050f"), "ok 8 x0100070100000008")
+        .port(format!("settled_length {COUNTED}"), "ok 8")
+        .port(format!("message_decode 1 1 1 {COUNTED}"), "ok 7 1 1 t257 s12 l4")
+        .port(format!("read 16 {COUNTED}"), "0 16 0 0 x07010000000101010000000c00000004")
+        .port("message_encode 7 1 1 16 1 257 1 0 1 4 x0000000f", format!("ok 16 {COUNTED}"))
+        .port("encode 7 1 16 x0101000000040000000f", format!("0 16 0 0 {COUNTED}")),
         read(
             "a class that is reserved (`01 00 01 01 00 00 00 08`)",
             "x0100010100000008",

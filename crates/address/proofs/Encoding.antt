@@ -10,7 +10,7 @@ use lib.Dec.{leb}
 use lib.ListN.{length, length-append}
 use Rattle.bcd.specs.Outcome.{Outcome, accepted, refused, pick, after, mapped, each, All, fit64, deliver}
 use Rattle.bcd.specs.Digits.{builtIn}
-use Rattle.bcd.proofs.Outcomes.{accepted-inj, never, after-inv, mapped-inv, demand-inv, each-inv, each-append, deliver-buffer}
+use Rattle.bcd.proofs.Outcomes.{accepted-inj, never, after-inv, mapped-inv, demand-inv, mapped-demand, each-inv, each-append, deliver-buffer}
 use Rattle.bcd.proofs.Writing.{Begun}
 use Rattle.parameter.specs.Parameter.{Param, four, runOctets, runLength, mostValue, encodeParam, encodeParams, Sized}
 use Rattle.parameter.specs.Table.{Table, records}
@@ -18,7 +18,7 @@ use Rattle.parameter.proofs.RoundTrip.{run-length, run-length-append, encode-ac
 use Rattle.address.specs.Address.{indicator, pieces, sized, writeAddress}
 use Rattle.address.specs.Records.{flagged, titleOf, addressOf}
 use Rattle.address.specs.Given.{encodeAddressAs}
-use Rattle.address.specs.Steps.GivenParts.{givenTitle, givenParam, givenHead}
+use Rattle.address.specs.Steps.GivenParts.{givenTitle, givenParam, givenHead, within, lengthWith}
 use Rattle.address.specs.declared.SuaAddress.{SuaAddress}
 use Rattle.address.proofs.Planning.{mapped-refused, paramOf, codeParam, subOne, four-length, parts-written, parts-refused}
 use Rattle.address.proofs.Copying.{lent-length}
@@ -88,6 +88,48 @@ pub eight : (b : Bool) → pick b 8 0 ≤ 8
 eight true = omega arith
 eight false = omega arith
 
+-- The length of an address value, with what its title takes: each refusal, and the sum.
+module _ (tag : ℕ) (taken : Outcome ℕ) (code ssn : Bool) (values : List ℕ) (t : Table) (count : ℕ) where
+  pub with-outside : (n : ℕ) (vs : List ℕ) → records values t count ≡ refused n vs → lengthWith tag taken code ssn values t count ≡ refused n vs
+  unfolding lengthWith
+  with-outside n vs e = rw e
+
+  module _ (os : List Param) (inside : records values t count ≡ accepted os) where
+    pub with-untitled : (n : ℕ) (vs : List ℕ) → taken ≡ refused n vs → lengthWith tag taken code ssn values t count ≡ refused n vs
+    unfolding lengthWith
+    with-untitled n vs e = rw (inside, e)
+
+    module _ (k : ℕ) (there : taken ≡ accepted k) where
+      with-sum : lengthWith tag taken code ssn values t count ≡ after (each encodeParam os) (λ w. within tag (4 + k + pick code 8 0 + pick ssn 8 0 + length w))
+      unfolding lengthWith
+      with-sum = rw (inside, there)
+
+      abbrev measuredOthers : Outcome ℕ
+      measuredOthers = mapped (λ (w : List ℕ). fit64 (length w)) (after (records values t count) (each encodeParam))
+
+      others-measured : measuredOthers ≡ mapped (λ (w : List ℕ). fit64 (length w)) (each encodeParam os)
+      others-measured = ap (λ (o : Outcome (List Param)). mapped (λ (w : List ℕ). fit64 (length w)) (after o (each encodeParam))) inside
+
+      pub with-refused : (n : ℕ) (vs : List ℕ) → refused n vs ≡ measuredOthers → lengthWith tag taken code ssn values t count ≡ refused n vs
+      with-refused n vs e =
+          let r = mapped-refused (λ (w : List ℕ). fit64 (length w)) (each encodeParam os) (e ∙ others-measured) in
+          with-sum ∙ rw r
+
+      module _ (m total : ℕ) (measured : accepted m ≡ measuredOthers) (sum : total ≡ fit64 (4 + k + pick code 8 0 + pick ssn 8 0 + m)) where
+        pub with-long : mostValue < total → lengthWith tag taken code ssn values t count ≡ refused 10 (tag ∷ total ∷ [])
+        with-long h =
+            let (w, hw, f) = mapped-inv (λ (w : List ℕ). fit64 (length w)) (each encodeParam os) (sym (measured ∙ others-measured)) in
+            let n = 4 + k + pick code 8 0 + pick ssn 8 0 + length w in
+            let same : fit64 n ≡ total = omega arith in
+            with-sum ∙ rw hw (rw (lt-leb n mostValue (omega arith), same))
+
+        pub with-counted : total ≤ mostValue → lengthWith tag taken code ssn values t count ≡ accepted total
+        with-counted h =
+            let (w, hw, f) = mapped-inv (λ (w : List ℕ). fit64 (length w)) (each encodeParam os) (sym (measured ∙ others-measured)) in
+            let n = 4 + k + pick code 8 0 + pick ssn 8 0 + length w in
+            let same : n ≡ total = omega arith in
+            with-sum ∙ rw hw (rw (le-leb n mostValue (omega arith), same))
+
 module _ (tag : ℕ) (a : SuaAddress) (values : List ℕ) (t : Table) where
   abbrev listed : Outcome (List Param)
   listed = records values t (a .«other_count»)
@@ -130,49 +172,32 @@ module _ (tag : ℕ) (a : SuaAddress) (values : List ℕ) (t : Table) where
       given-runs : encodeAddressAs tag a values t ≡ after (mapped (λ w. runOctets (frontOf a ts) ++ w) (each encodeParam os)) (λ w. sized tag (givenHead a ++ w))
       given-runs = given-pieces ∙ ap (λ (o : Outcome (List ℕ)). after o (λ w. sized tag (givenHead a ++ w))) pieces-runs
 
-  -- The others, measured.
-  module _ (os : List Param) (known : listed ≡ accepted os) (k : ℕ) (there : accepted k ≡ mapped runLength titled) where
-    encoded-others : after listed (each encodeParam) ≡ each encodeParam os
-    encoded-others = ap (λ (o : Outcome (List Param)). after o (each encodeParam)) known
-
-    -- One of them is too long.
-    pub given-refused : (n : ℕ) (vs : List ℕ) → refused n vs ≡ mapped (λ (w : List ℕ). fit64 (length w)) (after listed (each encodeParam)) → encodeAddressAs tag a values t ≡ refused n vs
-    given-refused n vs e =
-        let (ts, ht, l) = mapped-inv runLength titled (sym there) in
-        let r : each encodeParam os ≡ refused n vs = mapped-refused (λ (w : List ℕ). fit64 (length w)) (each encodeParam os) (e ∙ ap (mapped (λ (w : List ℕ). fit64 (length w))) encoded-others) in
-        given-runs os known ts ht ∙ rw r
-
-    module _ (m total : ℕ) (measured : accepted m ≡ mapped (λ (w : List ℕ). fit64 (length w)) (after listed (each encodeParam)))
-        (sum : total ≡ fit64 (4 + k + pick (a .«has_point_code») 8 0 + pick (a .«has_ssn») 8 0 + m)) where
-      record Summed : Type 0 where
-        octets : List ℕ
-        size : total ≡ fit64 (length octets)
-        made : encodeAddressAs tag a values t ≡ sized tag octets
-
-      summed : Summed
-      summed =
-          let (ts, ht, l) = mapped-inv runLength titled (sym there) in
-          let (w, hw, f) = mapped-inv (λ (w : List ℕ). fit64 (length w)) (each encodeParam os) (sym (measured ∙ ap (mapped (λ (w : List ℕ). fit64 (length w))) encoded-others)) in
+  -- Its length, with what its title takes.
+  pub given-measured : mapped length (encodeAddressAs tag a values t) ≡ lengthWith tag (mapped runLength titled) (a .«has_point_code») (a .«has_ssn») values t (a .«other_count»)
+  given-measured = listing listed refl
+    where
+      measured : (ts : List Param) (o : Outcome (List ℕ)) → mapped length (after (mapped (λ w. runOctets (frontOf a ts) ++ w) o) (λ w. sized tag (givenHead a ++ w))) ≡ after o (λ w. within tag (4 + runLength ts + pick (a .«has_point_code») 8 0 + pick (a .«has_ssn») 8 0 + length w))
+      measured ts (accepted w) =
           let u = runOctets (frontOf a ts) in
-          let x = length-append u w in
-          record {
-            octets = givenHead a ++ (u ++ w);
-            size = omega (arith, run-length (frontOf a ts), front-length a ts);
-            made = given-runs os known ts ht ∙ ap (λ (o : Outcome (List ℕ)). after (mapped (λ w. u ++ w) o) (λ w. sized tag (givenHead a ++ w))) hw;
-          }
+          let all = givenHead a ++ (u ++ w) in
+          let sum : length all ≡ 4 + runLength ts + pick (a .«has_point_code») 8 0 + pick (a .«has_ssn») 8 0 + length w = omega (arith, length-append u w, run-length (frontOf a ts), front-length a ts) in
+          mapped-demand (leb (length all) mostValue) 10 (tag ∷ fit64 (length all) ∷ []) length (accepted all) ∙ ap (within tag) sum
+      measured ts (refused n vs) = refl
 
-      -- The whole is too long.
-      pub given-long : mostValue < total → encodeAddressAs tag a values t ≡ refused 10 (tag ∷ total ∷ [])
-      given-long h =
-          let s = summed in
-          s .made ∙ rw (lt-leb (length (s .octets)) mostValue (omega (arith, s .size)), sym (s .size))
+      titling : (os : List Param) → listed ≡ accepted os → (o : Outcome (List Param)) → titled ≡ o → mapped length (encodeAddressAs tag a values t) ≡ lengthWith tag (mapped runLength titled) (a .«has_point_code») (a .«has_ssn») values t (a .«other_count»)
+      titling os inside (accepted ts) e =
+          ap (mapped length) (given-runs os inside ts e)
+          ∙ measured ts (each encodeParam os)
+          ∙ sym (with-sum tag (mapped runLength titled) (a .«has_point_code») (a .«has_ssn») values t (a .«other_count») os inside (runLength ts) (ap (mapped runLength) e))
+      titling os inside (refused n vs) e =
+          ap (mapped length) (given-untitled os inside n vs e)
+          ∙ sym (with-untitled tag (mapped runLength titled) (a .«has_point_code») (a .«has_ssn») values t (a .«other_count») os inside n vs (ap (mapped runLength) e))
 
-      pub given-counted : total ≤ mostValue → accepted total ≡ mapped length (encodeAddressAs tag a values t)
-      given-counted h =
-          let s = summed in
-          let l : total ≡ length (s .octets) = omega (arith, s .size) in
-          let within : sized tag (s .octets) ≡ accepted (s .octets) = rw (le-leb (length (s .octets)) mostValue (omega (arith, s .size))) in
-          ap accepted l ∙ sym (ap (mapped length) (s .made ∙ within))
+      listing : (o : Outcome (List Param)) → listed ≡ o → mapped length (encodeAddressAs tag a values t) ≡ lengthWith tag (mapped runLength titled) (a .«has_point_code») (a .«has_ssn») values t (a .«other_count»)
+      listing (accepted os) inside = titling os inside titled refl
+      listing (refused n vs) e =
+          ap (mapped length) (given-outside n vs e)
+          ∙ sym (with-outside tag (mapped runLength titled) (a .«has_point_code») (a .«has_ssn») values t (a .«other_count») n vs e)
 
 -- An address that is written, as so many octets.
 pub record Known (tag : ℕ) (a : SuaAddress) (values : List ℕ) (t : Table) (total : ℕ) : Type 0 where

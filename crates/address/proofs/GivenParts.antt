@@ -9,24 +9,23 @@ use borrow.Author.Tests.{le-leb, lt-leb, leb-true}
 use borrow.Rule.Slice.PartMut.{midOf, putMid}
 use lib.Dec.{leb}
 use lib.ListN.{length, take, drop}
-use lib.Seq.{length-take-le}
 use Rattle.bcd.specs.Outcome.{Outcome, accepted, refused, pick, after, demand, mapped, each, deliver}
 use Rattle.bcd.specs.Digits.{builtIn, writeDigits}
-use Rattle.bcd.proofs.Outcomes.{never, mapped-inv, deliver-buffer}
+use Rattle.bcd.proofs.Outcomes.{accepted-inj, never, mapped-inv, deliver-refused, deliver-buffer, deliver-answer}
 use Rattle.bcd.proofs.Writing.{delivered}
 use Rattle.bcd.proofs.Characters.{builtIn-lawful}
-use Rattle.bcd.proofs.Writable.{write-inv}
 use Rattle.parameter.specs.Parameter.{Param, paddedLength, paramOctets, runOctets, runLength, frameParam, encodeParam}
 use Rattle.parameter.proofs.RoundTrip.{octets-length}
 use Rattle.parameter.proofs.InPlace.{framed-there}
-use Rattle.address.specs.Address.{Title, titleOctets, writeTitle, title, present, subParam}
+use Rattle.address.specs.Address.{Title, writeTitle, title, present, subParam}
 use Rattle.address.specs.Records.{titleOf, titleGiven, flagged}
-use Rattle.address.specs.Steps.Plan.{Ready}
-use Rattle.address.specs.Steps.GivenParts.{givenTitle, givenParam}
+use Rattle.address.specs.Steps.GivenParts.{givenTitle, givenParam, titleRoom, Roomed}
 use Rattle.address.specs.declared.GlobalTitle.{GlobalTitle}
 use Rattle.address.proofs.Planning.{each-one, title-sized, flagged-small}
 use Rattle.address.proofs.Putting.{encoded, one-delivered, none-delivered}
 use Rattle.address.proofs.Copying.{lent-length}
+use Rattle.address.proofs.Lending.{lent-refused, lent-accepted}
+use Rattle.address.proofs.TitleRecords.{record-size}
 
 -- What it takes: 11, 9, or the length of its sub-parameter; none where it is absent.
 module _ (b : Bool) (g : GlobalTitle) where
@@ -85,71 +84,89 @@ title-small b g n e =
     let (qs, h, l) = mapped-inv runLength (givenTitle b g) (sym e) in
     flagged-small builtIn builtIn-lawful b (titleOf g) n (e ∙ ap (mapped runLength) (h ∙ sym (title-accepts g b g qs h .1)))
 
--- A title for which there is room.
-pub record TitleRoom (g : GlobalTitle) (out : List ℕ) : Type 0 where
-  pub few : g .count ≤ 255
-  pub octets : List ℕ
-  pub written : writeTitle builtIn (titleOf g) ≡ accepted octets
-  pub size : length octets ≡ 8 + (g .count + 1) / 2
-  pub room : paddedLength (length octets) ≤ length out
-
-few-of : (g : GlobalTitle) (qs : List Param) → givenTitle true g ≡ accepted qs → (g .count ≤ 255) × (subParam builtIn (title (titleOf g)) ≡ accepted qs)
-few-of g qs e = go (leb (g .count) 255) refl e
+-- Its count is not above 255 where it is accepted.
+title-few-of : (g : GlobalTitle) (qs : List Param) → givenTitle true g ≡ accepted qs → g .count ≤ 255
+title-few-of g qs e = go (leb (g .count) 255) refl e
   where
-    go :
-        (t : Bool)
-        → leb (g .count) 255 ≡ t
-        → after (demand t 11 (g .count ∷ []) (accepted (titleOf g))) (λ t. subParam builtIn (title t)) ≡ accepted qs
-        → (g .count ≤ 255) × (subParam builtIn (title (titleOf g)) ≡ accepted qs)
-    go true h e = (leb-true (g .count) 255 h, e)
+    go : (t : Bool) → leb (g .count) 255 ≡ t → after (demand t 11 (g .count ∷ []) (accepted (titleOf g))) (λ t. subParam builtIn (title t)) ≡ accepted qs → g .count ≤ 255
+    go true h e = leb-true (g .count) 255 h
     go false h e = absurd (never e)
 
-module _ (b : Bool) (g : GlobalTitle) (out : List ℕ) (y : Ready (givenTitle b g) out) where
-  pub title-room : b ≡ true → length (g .digits) ≡ 255 → TitleRoom g out
-  unfolding subParam writeTitle runLength
-  title-room there long =
-      let (few, e) = few-of g (y .params) (ap (λ (b : Bool). givenTitle b g) (sym there) ∙ y .accepts) in
-      let (w, hw, same) = mapped-inv (λ v. record { tag = 0x8001; value = v } ∷ []) (writeTitle builtIn (titleOf g)) e in
-      let cs = take (g .count) (g .digits) in
-      let (os, ho, front) = mapped-inv (titleOctets (titleOf g)) (writeDigits builtIn cs) hw in
-      let good = write-inv builtIn builtIn-lawful cs (length os) (sym (ap (mapped length) ho)) in
-      let l = length-take-le (g .count) (g .digits) (omega arith) in
-      record {
-        few = few;
-        octets = w;
-        written = hw;
-        size = sym (ap length front) ∙ omega (arith, good .count);
-        room = omega (arith, ap runLength same, y .room);
-      }
+-- Where it is there, its value in one sub-parameter.
+title-wrapped : (g : GlobalTitle) → givenTitle true g ≡ mapped (λ v. record { tag = 0x8001; value = v } ∷ []) (after (titleGiven g) (writeTitle builtIn))
+unfolding subParam
+title-wrapped g = go (leb (g .count) 255)
+  where
+    go : (t : Bool) → after (demand t 11 (g .count ∷ []) (accepted (titleOf g))) (λ t. subParam builtIn (title t)) ≡ mapped (λ v. record { tag = 0x8001; value = v } ∷ []) (after (demand t 11 (g .count ∷ []) (accepted (titleOf g))) (writeTitle builtIn))
+    go true = refl
+    go false = refl
 
-  pub title-absent : b ≡ false → record { answer = accepted 0; buffer = out } ≡ deliver (mapped runOctets (givenTitle b g)) out
-  title-absent e = rw e (none-delivered out)
+-- Where it can be written, it takes what its count tells.
+pub title-roomed : (b : Bool) (g : GlobalTitle) → 255 ≤ length (g .digits) → (qs : List Param) → givenTitle b g ≡ accepted qs → titleRoom b (g .count) ≡ accepted (runLength qs)
+unfolding runLength
+title-roomed true g long qs e =
+    let few = title-few-of g qs e in
+    let (w, hw, one) = mapped-inv (λ v. record { tag = 0x8001; value = v } ∷ []) (after (titleGiven g) (writeTitle builtIn)) (sym (title-wrapped g) ∙ e) in
+    rw (le-leb (g .count) 255 few) (ap accepted (omega (arith, record-size g few long w hw, ap runLength one)))
+title-roomed false g long qs e = ap (λ qs. accepted (runLength qs)) (accepted-inj e)
 
-  -- Its value in place, and framed.
-  pub title-put :
-      (n r : ℕ) {p q : Outcome ℕ} {last d : List ℕ}
-      → b ≡ true
-      → TitleRoom g out
+pub title-absent : (b : Bool) (g : GlobalTitle) (out : List ℕ) → b ≡ false → record { answer = accepted 0; buffer = out } ≡ deliver (mapped runOctets (givenTitle b g)) out
+title-absent b g out e = rw e (none-delivered out)
+
+-- Room for it.
+pub title-room : (b : Bool) (count : ℕ) (out : List ℕ) → Roomed (titleRoom b count) out → b ≡ true → (count ≤ 255) × (((count + 1) / 2 + 15) / 4 * 4 ≤ length out)
+title-room b count out y there = go (leb count 255) refl (rw there at (y .known))
+  where
+    go : (t : Bool) → leb count 255 ≡ t → demand t 11 (count ∷ []) (accepted (((count + 1) / 2 + 15) / 4 * 4)) ≡ accepted (y .takes) → (count ≤ 255) × (((count + 1) / 2 + 15) / 4 * 4 ≤ length out)
+    go true h e = (leb-true count 255 h, omega (arith, accepted-inj e, y .room))
+    go false h e = absurd (never e)
+
+module _ (b : Bool) (g : GlobalTitle) (out : List ℕ) (there : b ≡ true) (few : g .count ≤ 255) (long : 255 ≤ length (g .digits))
+    (room : ((g .count + 1) / 2 + 15) / 4 * 4 ≤ length out) where
+  abbrev lent : List ℕ
+  lent = midOf 4 (length out - 4) out
+
+  value-room : (w : List ℕ) → after (titleGiven g) (writeTitle builtIn) ≡ accepted w → length w ≤ length lent
+  value-room w e = omega (arith, record-size g few long w e, lent-length out 4)
+
+  pub title-refused :
+      (last : List ℕ) {n : ℕ} {vs : List ℕ}
+      → record { answer = refused n vs; buffer = last } ≡ deliver (after (titleGiven g) (writeTitle builtIn)) lent
+      → record { answer = refused n vs; buffer = putMid 4 (length out - 4) out last } ≡ deliver (mapped runOctets (givenTitle b g)) out
+  title-refused last {n} {vs} e =
+      let (bad, same) = lent-refused (after (titleGiven g) (writeTitle builtIn)) 4 (length out - 4) out e value-room in
+      let known : mapped runOctets (givenTitle b g) ≡ refused n vs = rw there (ap (mapped runOctets) (title-wrapped g ∙ ap (mapped (λ v. record { tag = 0x8001; value = v } ∷ [])) bad)) in
+      ap (λ (d : List ℕ). record { answer = refused n vs; buffer = d }) same
+      ∙ deliver-refused n vs out
+      ∙ ap (λ (o : Outcome (List ℕ)). deliver o out) (sym known)
+
+  -- Its value in place: how many octets it has.
+  pub title-counted-in :
+      (n : ℕ) (last : List ℕ)
+      → record { answer = accepted n; buffer = last } ≡ deliver (after (titleGiven g) (writeTitle builtIn)) lent
       → n ≡ 8 + (g .count + 1) / 2
-      → r ≡ (n + 7) / 4 * 4
-      → record { answer = p; buffer = last } ≡ deliver (after (titleGiven g) (writeTitle builtIn)) (midOf 4 (length out - 4) out)
+  title-counted-in n last e =
+      let (w, hw) = lent-accepted (after (titleGiven g) (writeTitle builtIn)) lent e in
+      accepted-inj (deliver-answer w lent (value-room w hw) (e ∙ ap (λ (o : Outcome (List ℕ)). deliver o lent) hw)) ∙ record-size g few long w hw
+
+  -- And framed.
+  pub title-put :
+      (n : ℕ) (last : List ℕ) {q : Outcome ℕ} {d : List ℕ}
+      → record { answer = accepted n; buffer = last } ≡ deliver (after (titleGiven g) (writeTitle builtIn)) lent
       → record { answer = q; buffer = d } ≡ deliver (frameParam 0x8001 n (putMid 4 (length out - 4) out last)) (putMid 4 (length out - 4) out last)
-      → record { answer = accepted r; buffer = d } ≡ deliver (mapped runOctets (givenTitle b g)) out
-  unfolding subParam runOctets
-  title-put n r {p} {q} {last} {d} there k e s put frame =
-      let w = k .octets in
-      let m : n ≡ length w = e ∙ sym (k .size) in
-      let lent = midOf 4 (length out - 4) out in
-      let l = lent-length out 4 in
-      let given : after (titleGiven g) (writeTitle builtIn) ≡ accepted w = rw (le-leb (g .count) 255 (k .few), k .written) in
-      let held = deliver-buffer w lent (omega (arith, k .room)) (put ∙ ap (λ (o : Outcome (List ℕ)). deliver o lent) given) in
-      let small = k .few in
-      let begun = framed-there 0x8001 w out last d (omega (arith, k .size)) (k .room) held
+      → record { answer = accepted ((n + 7) / 4 * 4); buffer = d } ≡ deliver (mapped runOctets (givenTitle b g)) out
+  unfolding runOctets
+  title-put n last {q} {d} e frame =
+      let (w, hw) = lent-accepted (after (titleGiven g) (writeTitle builtIn)) lent e in
+      let l = record-size g few long w hw in
+      let m : n ≡ length w = title-counted-in n last e ∙ sym l in
+      let held = deliver-buffer w lent (value-room w hw) (e ∙ ap (λ (o : Outcome (List ℕ)). deliver o lent) hw) in
+      let begun = framed-there 0x8001 w out last d (omega arith) (omega arith) held
       (frame ∙ ap (λ (i : ℕ). deliver (frameParam 0x8001 i (putMid 4 (length out - 4) out last)) (putMid 4 (length out - 4) out last)) m) in
       let one : Param = record { tag = 0x8001; value = w } in
       let known : mapped runOctets (givenTitle b g) ≡ accepted (paramOctets one) =
-      ap (mapped runOctets) (title-few b g there (k .few)) ∙ rw (k .written, append-nil (paramOctets one)) in
-      delivered r begun (octets-length one ∙ omega arith) ∙ ap (λ (o : Outcome (List ℕ)). deliver o out) (sym known)
+      rw there (ap (mapped runOctets) (title-wrapped g ∙ ap (mapped (λ v. record { tag = 0x8001; value = v } ∷ [])) hw) ∙ ap accepted (append-nil (paramOctets one))) in
+      delivered ((n + 7) / 4 * 4) begun (octets-length one ∙ omega arith) ∙ ap (λ (o : Outcome (List ℕ)). deliver o out) (sym known)
 
 -- A sub-parameter of four octets, if it is there.
 module _ (b : Bool) (q : Param) (out : List ℕ) where

@@ -16,11 +16,13 @@ pub mod Plans
 pub mod Putting
 pub mod Titling
 pub mod Copying
+pub mod Lending
 pub mod Delivering
 pub mod TitleRecords
 pub mod AddressRecords
 pub mod Tabling
 pub mod GivenParts
 pub mod Encoding
+pub mod TitleFirst
 pub mod TableBack
 pub mod Standing

@@ -1,16 +1,18 @@
 -- Titles read into records, and records written.
-use Prim.Native.Nat.{ℕ, _+_, _-_, _≤_, _<_}
+use Prim.Native.Nat.{ℕ, _+_, _-_, _/_, _≤_, _<_}
 use mathlib.Core.Path.{_≡_, refl, sym, ap, _∙_}
 use mathlib.Core.List.{List, [], _∷_, _++_}
 use native.Mathlib.Omega.{arith}
 use borrow.Author.Tests.{le-leb, lt-leb}
 use lib.ListN.{length, getD, take, drop, length-drop}
-use lib.Seq.{take-append-seam}
+use lib.Seq.{take-append-seam, length-take-le}
 use borrow.Rule.Slice.PartMut.{midOf, putMid}
 use Rattle.bcd.specs.Outcome.{Outcome, accepted, refused, after, mapped, most, Delivered, deliver}
 use Rattle.bcd.specs.Digits.{builtIn, digitsIn, readDigits, writeDigits}
-use Rattle.bcd.proofs.Outcomes.{accepted-inj, never, bounded-within, bounded-beyond, mapped-inv, deliver-refused, deliver-passed-on, deliver-too-long, deliver-buffer, deliver-fits}
-use Rattle.bcd.proofs.Writing.{begin, extend, delivered}
+use Rattle.bcd.proofs.Outcomes.{accepted-inj, never, bounded-within, bounded-beyond, mapped-inv, deliver-refused, deliver-buffer, deliver-fits}
+use Rattle.bcd.proofs.Writing.{extend, delivered}
+use Rattle.bcd.proofs.Characters.{builtIn-lawful}
+use Rattle.bcd.proofs.Writable.{write-inv}
 use Rattle.bcd.proofs.Digits.{read-at-most}
 use Rattle.bcd.proofs.Distinct.{refusals-distinct}
 use Rattle.address.specs.Address.{Title, titleIn, readTitle, titleOctets, writeTitle}
@@ -21,6 +23,7 @@ use Rattle.address.specs.declared.title.Verdict.the-variants as D
 use Rattle.address.specs.declared.GlobalTitle.{GlobalTitle}
 use Rattle.address.proofs.Planning.{whole-part}
 use Rattle.address.proofs.Copying.{lent-length}
+use Rattle.address.proofs.Lending.{lent-refused, lent-accepted, refusal-same, short-first, front-kept, front-written}
 
 -- Reading a title: 12, 1, or the record.
 module _ (v : List ℕ) where
@@ -63,56 +66,80 @@ module _ (v : List ℕ) where
       title-never n vs ds e = absurd (never (ap (λ (d : Delivered). d .answer) (e ∙ read-known)))
 
 -- Writing a record: 11, 9, 14, or its octets.
-module _ (g : GlobalTitle) (out : List ℕ) where
-  pub record-many : 255 < g .count → record { answer = refused 11 (g .count ∷ []); buffer = out } ≡ deliver (after (titleGiven g) (writeTitle builtIn)) out
-  record-many h = rw (lt-leb (g .count) 255 h) (deliver-refused 11 (g .count ∷ []) out)
+pub record-many : (g : GlobalTitle) (out : List ℕ) → 255 < g .count → record { answer = refused 11 (g .count ∷ []); buffer = out } ≡ deliver (after (titleGiven g) (writeTitle builtIn)) out
+record-many g out h = rw (lt-leb (g .count) 255 h) (deliver-refused 11 (g .count ∷ []) out)
 
-  module _ (few : g .count ≤ 255) where
-    abbrev cs : List ℕ
-    cs = take (g .count) (g .digits)
+module _ (g : GlobalTitle) (few : g .count ≤ 255) (long : 255 ≤ length (g .digits)) where
+  abbrev cs : List ℕ
+  cs = take (g .count) (g .digits)
 
-    given : after (titleGiven g) (writeTitle builtIn) ≡ mapped (titleOctets (titleOf g)) (writeDigits builtIn cs)
-    unfolding writeTitle
-    given = rw (le-leb (g .count) 255 few)
+  taken : length cs ≡ g .count
+  taken = length-take-le (g .count) (g .digits) (omega arith)
 
-    measured : mapped (λ (k : ℕ). 8 + k) (mapped length (writeDigits builtIn cs)) ≡ mapped length (after (titleGiven g) (writeTitle builtIn))
-    measured = go (writeDigits builtIn cs) ∙ sym (ap (mapped length) given)
-      where
-        go : (o : Outcome (List ℕ)) → mapped (λ (k : ℕ). 8 + k) (mapped length o) ≡ mapped length (mapped (titleOctets (titleOf g)) o)
-        go (accepted os) = ap accepted (omega arith)
-        go (refused n vs) = refl
+  given : after (titleGiven g) (writeTitle builtIn) ≡ mapped (titleOctets (titleOf g)) (writeDigits builtIn cs)
+  unfolding writeTitle
+  given = rw (le-leb (g .count) 255 few)
 
+  -- How many octets there are, where the digits can be written.
+  digits-size : (os : List ℕ) → writeDigits builtIn cs ≡ accepted os → length os ≡ (g .count + 1) / 2
+  digits-size os e = omega (arith, taken, write-inv builtIn builtIn-lawful cs (length os) (sym (ap (mapped length) e)) .count)
+
+  pub record-size : (w : List ℕ) → after (titleGiven g) (writeTitle builtIn) ≡ accepted w → length w ≡ 8 + (g .count + 1) / 2
+  record-size w e =
+      let (os, ho, made) = mapped-inv (titleOctets (titleOf g)) (writeDigits builtIn cs) (sym given ∙ e) in
+      omega (arith, digits-size os ho, ap length made)
+
+  module _ (out : List ℕ) where
     pub record-short :
-        (n : ℕ) → accepted n ≡ mapped length (writeDigits builtIn cs) → length out < 8 + n
-        → record { answer = refused 14 ((8 + n) ∷ []); buffer = out } ≡ deliver (after (titleGiven g) (writeTitle builtIn)) out
-    record-short n e h = deliver-too-long _ (8 + n) out (ap (mapped (λ (k : ℕ). 8 + k)) e ∙ measured) h
+        {answer : Outcome ℕ}
+        → answer ≡ after (mapped length (writeDigits builtIn cs)) (λ (n : ℕ). refused 14 ((8 + (g .count + 1) / 2) ∷ []))
+        → length out < 8 + (g .count + 1) / 2
+        → record { answer = answer; buffer = out } ≡ deliver (after (titleGiven g) (writeTitle builtIn)) out
+    record-short e h =
+        let os = writeDigits builtIn cs in
+        let w = after (titleGiven g) (writeTitle builtIn) in
+        let short : Outcome ℕ = refused 14 ((8 + (g .count + 1) / 2) ∷ []) in
+        let same = refusal-same length os short ∙ sym (refusal-same (titleOctets (titleOf g)) os short) ∙ ap (λ (o : Outcome (List ℕ)). after o (λ (v : List ℕ). short)) (sym given) ∙ sym (refusal-same length w short) in
+        short-first w (8 + (g .count + 1) / 2) out (e ∙ same) record-size h
 
-    pub record-bad :
-        (n : ℕ) (vs : List ℕ) → refused n vs ≡ mapped length (writeDigits builtIn cs)
-        → record { answer = refused n vs; buffer = out } ≡ deliver (after (titleGiven g) (writeTitle builtIn)) out
-    record-bad n vs e = deliver-passed-on _ n vs out (ap (mapped (λ (k : ℕ). 8 + k)) e ∙ measured)
+    -- The digits are written first, and the rest in front of them.
+    module _ (room : 8 + (g .count + 1) / 2 ≤ length out) where
+      abbrev lent : List ℕ
+      lent = midOf 8 (length out - 8) out
 
-    abbrev front : List ℕ
-    front = 0 ∷ 0 ∷ 0 ∷ g .gti ∷ g .count ∷ g .«translation_type» ∷ g .«numbering_plan» ∷ g .«nature_of_address» ∷ []
+      digits-room : (os : List ℕ) → writeDigits builtIn cs ≡ accepted os → length os ≤ length lent
+      digits-room os e = omega (arith, digits-size os e, lent-length out 8)
 
-    pub record-put :
-        (n : ℕ) (d last : List ℕ) {answer : Outcome ℕ}
-        → length cs ≡ g .count
-        → accepted n ≡ mapped length (writeDigits builtIn cs)
-        → 8 + n ≤ length out
-        → d ≡ front ++ drop 8 out
-        → record { answer = answer; buffer = last } ≡ deliver (writeDigits builtIn cs) (midOf 8 (length d - 8) d)
-        → record { answer = accepted (8 + n); buffer = putMid 8 (length d - 8) d last } ≡ deliver (after (titleGiven g) (writeTitle builtIn)) out
-    record-put n d last l e room h put =
-        let (os, w, size) = mapped-inv length (writeDigits builtIn cs) (sym e) in
-        let b = begin out front d (omega arith) h in
-        let lent = lent-length d 8 in
-        let x = extend os last 8 (length d - 8) b refl (omega (arith, b .same)) (omega (arith, b .same))
-        (deliver-buffer os (midOf 8 (length d - 8) d) (omega (arith, b .same)) (put ∙ ap (λ (o : Outcome (List ℕ)). deliver o (midOf 8 (length d - 8) d)) w)) in
-        let same : front ++ os ≡ titleOctets (titleOf g) os = rw l in
-        delivered (8 + n) x (omega arith)
-        ∙ ap (λ w. deliver (accepted w) out) same
-        ∙ ap (λ (o : Outcome (List ℕ)). deliver o out) (sym (given ∙ ap (mapped (titleOctets (titleOf g))) w))
+      pub record-refused :
+          (last : List ℕ) {n : ℕ} {vs : List ℕ}
+          → record { answer = refused n vs; buffer = last } ≡ deliver (writeDigits builtIn cs) lent
+          → record { answer = refused n vs; buffer = putMid 8 (length out - 8) out last } ≡ deliver (after (titleGiven g) (writeTitle builtIn)) out
+      record-refused last {n} {vs} e =
+          let (bad, same) = lent-refused (writeDigits builtIn cs) 8 (length out - 8) out e digits-room in
+          ap (λ (d : List ℕ). record { answer = refused n vs; buffer = d }) same
+          ∙ deliver-refused n vs out
+          ∙ ap (λ (o : Outcome (List ℕ)). deliver o out) (sym (given ∙ ap (mapped (titleOctets (titleOf g))) bad))
+
+      abbrev front : List ℕ
+      front = 0 ∷ 0 ∷ 0 ∷ g .gti ∷ g .count ∷ g .«translation_type» ∷ g .«numbering_plan» ∷ g .«nature_of_address» ∷ []
+
+      pub record-put :
+          (n : ℕ) (last d : List ℕ)
+          → record { answer = accepted n; buffer = last } ≡ deliver (writeDigits builtIn cs) lent
+          → d ≡ front ++ drop 8 (putMid 8 (length out - 8) out last)
+          → record { answer = accepted (8 + (g .count + 1) / 2); buffer = d } ≡ deliver (after (titleGiven g) (writeTitle builtIn)) out
+      record-put n last d e h =
+          let (os, w) = lent-accepted (writeDigits builtIn cs) lent e in
+          let fits = digits-room os w in
+          let l = lent-length out 8 in
+          let put = deliver-buffer os lent fits (e ∙ ap (λ (o : Outcome (List ℕ)). deliver o lent) w) in
+          let eight = length-take-le 8 out (omega arith) in
+          let behind = extend os last 8 (length out - 8) (front-kept out 8 (omega arith)) eight (omega arith) (omega arith) put in
+          let x = front-written (take 8 out) os front d 8 behind eight refl h in
+          let same : front ++ os ≡ titleOctets (titleOf g) os = rw taken in
+          delivered (8 + (g .count + 1) / 2) x (omega (arith, digits-size os w))
+          ∙ ap (λ w. deliver (accepted w) out) same
+          ∙ ap (λ (o : Outcome (List ℕ)). deliver o out) (sym (given ∙ ap (mapped (titleOctets (titleOf g))) w))
 
 -- The record of a title stands for that title.
 pub record-back : (t : Title) → titleOf (recordOf t) ≡ t

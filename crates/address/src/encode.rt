@@ -2,6 +2,8 @@
 use crate::GlobalTitle;
 use crate::SuaAddress;
 use crate::interpret::four_length;
+use crate::title::refused_first;
+use crate::title::write_value;
 use bcd::error::Counted;
 use bcd::error::Refusal;
 use parameter::tags::GLOBAL_TITLE;
@@ -15,9 +17,8 @@ ghost use Rattle.bcd.specs.Outcome.{accepted, pick, mapped, delivered, deliver}
 ghost use Rattle.bcd.specs.Answers.{countedOf};
 ghost use Rattle.parameter.specs.Parameter.{param, four, runOctets, runLength};
 ghost use Rattle.parameter.specs.Table.{table};
-ghost use Rattle.address.specs.Steps.Plan.{Ready};
 ghost use Rattle.address.specs.Given.{encodeAddressAs, encodeAddress};
-ghost use Rattle.address.specs.Steps.GivenParts.{givenTitle, givenParam, givenHead};
+ghost use Rattle.address.specs.Steps.GivenParts.{givenTitle, givenParam, givenHead, titleRoom, Roomed, lengthWith, roomFor};
 
 // What the title takes on the wire, if it is there. 11, 9.
 fn title_length(there: bool, gt: GlobalTitle) -> Counted
@@ -37,6 +38,59 @@ fn title_length(there: bool, gt: GlobalTitle) -> Counted
     Counted::Count(0)
 }
 
+// What the title takes on the wire, if it is there and its digits can be written, which is not looked at. 11.
+fn title_room(there: bool, count: usize) -> Counted
+    ensures { λ r. ⌜ countedOf r ≡ titleRoom there count ⌝ }
+{
+    if there {
+        if 255 < count {
+            return Counted::Refused(Refusal::TooManyDigits(count));
+        }
+        return Counted::Count(((count + 1) / 2 + 15) / 4 * 4);
+    }
+    Counted::Count(0)
+}
+
+// How many octets an address value has, with what its title takes. 15, the title's refusal, 10 for each other, 10 for the whole,
+// with the tag given.
+fn length_with(
+    tag: u16,
+    title: Counted,
+    has_point_code: bool,
+    has_ssn: bool,
+    values: &[u8],
+    tags: &[u16],
+    starts: &[usize],
+    lengths: &[usize],
+    count: usize,
+) -> Counted
+    ensures { λ r. ⌜
+        countedOf r
+        ≡ lengthWith tag (countedOf title) «has_point_code» «has_ssn»
+        (now (values .entry)) (table (now (tags .entry)) (now (starts .entry)) (now (lengths .entry))) count ⌝ }
+{
+    if parameter::table::outside(values, tags, starts, lengths, count) {
+        return Counted::Refused(Refusal::OutsideSlice);
+    }
+    match title {
+        Counted::Refused(r) => Counted::Refused(r),
+        Counted::Count(n) => {
+            match parameter::table::parameters_length(values, tags, starts, lengths, count) {
+                Counted::Refused(s) => Counted::Refused(s),
+                Counted::Count(others) => {
+                    let front = 4 + four_length(has_point_code) + four_length(has_ssn);
+                    let parts = parameter::saturating_add(front, n);
+                    let length = parameter::saturating_add(parts, others);
+                    if 65531 < length {
+                        return Counted::Refused(Refusal::ValueTooLong { tag, length });
+                    }
+                    Counted::Count(length)
+                }
+            }
+        }
+    }
+}
+
 // How many octets an address value has. 15, 11, 9, 10 for each other, 10 for the whole, with the tag given.
 pub fn encoded_length(
     tag: u16,
@@ -51,28 +105,50 @@ pub fn encoded_length(
         ≡ mapped length
         (encodeAddressAs tag address (now (values .entry)) (table (now (tags .entry)) (now (starts .entry)) (now (lengths .entry)))) ⌝ }
 {
-    let count = address.other_count;
-    if parameter::table::outside(values, tags, starts, lengths, count) {
-        return Counted::Refused(Refusal::OutsideSlice);
-    }
     let gt = address.global_title;
-    match title_length(address.has_title, gt) {
-        Counted::Refused(r) => Counted::Refused(r),
-        Counted::Count(title) => {
-            match parameter::table::parameters_length(values, tags, starts, lengths, count) {
-                Counted::Refused(s) => Counted::Refused(s),
-                Counted::Count(others) => {
-                    let code = four_length(address.has_point_code);
-                    let ssn = four_length(address.has_ssn);
-                    let length = parameter::saturating_add(4 + title + code + ssn, others);
-                    if 65531 < length {
-                        return Counted::Refused(Refusal::ValueTooLong { tag, length });
-                    }
-                    Counted::Count(length)
-                }
-            }
-        }
-    }
+    let title = title_length(address.has_title, gt);
+    let count = address.other_count;
+    length_with(
+        tag,
+        title,
+        address.has_point_code,
+        address.has_ssn,
+        values,
+        tags,
+        starts,
+        lengths,
+        count,
+    )
+}
+
+// How many octets an address value has if its digits can be written, which is not looked at. 15, 11, 10 for each other, 10 for
+// the whole, with the tag given.
+fn room_for(
+    tag: u16,
+    address: SuaAddress,
+    values: &[u8],
+    tags: &[u16],
+    starts: &[usize],
+    lengths: &[usize],
+) -> Counted
+    ensures { λ r. ⌜
+        countedOf r
+        ≡ roomFor tag address (now (values .entry)) (table (now (tags .entry)) (now (starts .entry)) (now (lengths .entry))) ⌝ }
+{
+    let gt = address.global_title;
+    let title = title_room(address.has_title, gt.count);
+    let count = address.other_count;
+    length_with(
+        tag,
+        title,
+        address.has_point_code,
+        address.has_ssn,
+        values,
+        tags,
+        starts,
+        lengths,
+        count,
+    )
 }
 
 // Writes the routing indicator and the address indicator.
@@ -89,20 +165,32 @@ fn write_head(address: SuaAddress, out: &mut [u8])
     out[3] = (indicator % 256) as u8;
 }
 
-// Writes the title, if it is there: its value in place, and tag, length and padding round it.
-fn write_title(there: bool, gt: GlobalTitle, out: &mut [u8]) -> usize
-    requires { ⌜ Ready (givenTitle there gt) (now out) ⌝ }
+// Writes the title, if it is there: its value in place, and tag, length and padding round it. 9.
+fn write_title(there: bool, gt: GlobalTitle, digits: &[u8], out: &mut [u8]) -> Counted
+    requires { ⌜ now digits ≡ gt .digits ⌝ }
+    requires { ⌜ Roomed (titleRoom there (gt .count)) (now out) ⌝ }
     ensures { λ r. ⌜
-        delivered (accepted r) (now (out .exit))
+        delivered (countedOf r) (now (out .exit))
         ≡ deliver (mapped runOctets (givenTitle there gt)) (now (out .entry)) ⌝ }
 {
     if there {
-        let n = 8 + (gt.count + 1) / 2;
-        gt.encode(&mut out[4..]);
-        parameter::frame(GLOBAL_TITLE, n, out);
-        return (n + 7) / 4 * 4;
+        return match write_value(
+            gt.gti,
+            gt.translation_type,
+            gt.numbering_plan,
+            gt.nature_of_address,
+            digits,
+            gt.count,
+            &mut out[4..],
+        ) {
+            Counted::Refused(r) => Counted::Refused(r),
+            Counted::Count(n) => {
+                parameter::frame(GLOBAL_TITLE, n, out);
+                Counted::Count((n + 7) / 4 * 4)
+            }
+        };
     }
-    0
+    Counted::Count(0)
 }
 
 // A 32-bit number, the high octet first.
@@ -133,23 +221,24 @@ fn write_four(there: bool, tag: u16, value: [u8; 4], out: &mut [u8]) -> usize
     0
 }
 
-// Writes an address value, which has `total` octets.
+// Writes an address value, which has `total` octets if its digits can be written. The title goes first: nothing is written
+// before 9.
 fn write(
     tag: u16,
     address: SuaAddress,
+    digits: &[u8],
     values: &[u8],
     tags: &[u16],
     starts: &[usize],
     lengths: &[usize],
     total: usize,
     out: &mut [u8],
-)
-    requires { ⌜
-        accepted total
-        ≡ mapped length (encodeAddressAs tag address (now values) (table (now tags) (now starts) (now lengths))) ⌝ }
+) -> Counted
+    requires { ⌜ now digits ≡ address .«global_title» .digits ⌝ }
+    requires { ⌜ accepted total ≡ roomFor tag address (now values) (table (now tags) (now starts) (now lengths)) ⌝ }
     requires { ⌜ total ≤ length (now out) ⌝ }
-    ensures { λ _. ⌜
-        delivered (accepted total) (now (out .exit))
+    ensures { λ r. ⌜
+        delivered (countedOf r) (now (out .exit))
         ≡ deliver
         (encodeAddressAs tag address (now (values .entry)) (table (now (tags .entry)) (now (starts .entry)) (now (lengths .entry))))
         (now (out .entry)) ⌝ }
@@ -158,11 +247,24 @@ fn write(
     let count = address.other_count;
     let code = four_octets(address.point_code);
     let ssn = [0, 0, 0, address.ssn];
-    write_head(address, out);
-    let a = 4 + write_title(address.has_title, gt, &mut out[4..]);
-    let b = a + write_four(address.has_point_code, POINT_CODE, code, &mut out[a..]);
-    let c = b + write_four(address.has_ssn, SUBSYSTEM_NUMBER, ssn, &mut out[b..]);
-    parameter::table::encode_parameters(values, tags, starts, lengths, count, &mut out[c..]);
+    match write_title(address.has_title, gt, digits, &mut out[4..]) {
+        Counted::Refused(r) => Counted::Refused(r),
+        Counted::Count(n) => {
+            write_head(address, out);
+            let a = 4 + n;
+            let b = a + write_four(address.has_point_code, POINT_CODE, code, &mut out[a..]);
+            let c = b + write_four(address.has_ssn, SUBSYSTEM_NUMBER, ssn, &mut out[b..]);
+            parameter::table::encode_parameters(
+                values,
+                tags,
+                starts,
+                lengths,
+                count,
+                &mut out[c..],
+            );
+            Counted::Count(total)
+        }
+    }
 }
 
 impl SuaAddress {
@@ -183,14 +285,27 @@ impl SuaAddress {
             (encodeAddressAs tag self (now (values .entry)) (table (now (tags .entry)) (now (starts .entry)) (now (lengths .entry))))
             (now (out .entry)) ⌝ }
     {
-        match encoded_length(tag, self, values, tags, starts, lengths) {
-            Counted::Refused(r) => Counted::Refused(r),
+        // The digits are looked at once, as they are written; where the address is refused for something else, before that,
+        // since 9 comes before 10 and 14.
+        match room_for(tag, self, values, tags, starts, lengths) {
+            Counted::Refused(_) => encoded_length(tag, self, values, tags, starts, lengths),
             Counted::Count(total) => {
                 if out.len() < total {
-                    return Counted::Refused(Refusal::OutputTooSmall(total));
+                    let answer = encoded_length(tag, self, values, tags, starts, lengths);
+                    return refused_first(answer, Refusal::OutputTooSmall(total));
                 }
-                write(tag, self, values, tags, starts, lengths, total, out);
-                Counted::Count(total)
+                let gt = self.global_title;
+                write(
+                    tag,
+                    self,
+                    &gt.digits,
+                    values,
+                    tags,
+                    starts,
+                    lengths,
+                    total,
+                    out,
+                )
             }
         }
     }

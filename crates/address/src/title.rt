@@ -3,12 +3,13 @@ use crate::GlobalTitle;
 use bcd::error::Counted;
 use bcd::error::Refusal;
 ghost use mathlib.Core.Path.{_≡_};
+ghost use Prim.Native.Nat.{ℕ, _≤_};
 ghost use lib.ListN.{length};
 ghost use Rattle.bcd.specs.Outcome.{after, delivered, deliver};
 ghost use Rattle.bcd.specs.Answers.{refusalOf, countedOf};
 ghost use Rattle.bcd.specs.Digits.{builtIn};
 ghost use Rattle.address.specs.Address.{readTitle, writeTitle};
-ghost use Rattle.address.specs.Records.{titleGiven};
+ghost use Rattle.address.specs.Records.{titleGiven, titleRecord};
 ghost use Rattle.address.specs.Titles.{verdictOf, titled, titleAnswer, titleRefused};
 
 // Whether a value was read, or why not.
@@ -30,6 +31,62 @@ fn refused(r: Refusal) -> TitleRead
     TitleRead {
         verdict: Verdict::Refused(r),
         title: GlobalTitle::new(0, 0, 0, 0, [0u8; 255], 0),
+    }
+}
+
+// The refusal of an answer or, where it has none, another one.
+pub(crate) fn refused_first(answer: Counted, other: Refusal) -> Counted
+    ensures { λ r. ⌜ countedOf r ≡ after (countedOf answer) (λ (n : ℕ). refusalOf other) ⌝ }
+{
+    match answer {
+        Counted::Refused(r) => Counted::Refused(r),
+        Counted::Count(_) => Counted::Refused(other),
+    }
+}
+
+// Writes the value of a title's sub-parameter. Its digits are lent, as a title by value is copied; they are looked at once, and
+// written before what stands in front of them, so that nothing is written before 9. 11, 9, 14.
+pub(crate) fn write_value(
+    gti: u8,
+    translation_type: u8,
+    numbering_plan: u8,
+    nature_of_address: u8,
+    digits: &[u8],
+    count: usize,
+    out: &mut [u8],
+) -> Counted
+    requires { ⌜ 255 ≤ length (now digits) ⌝ }
+    ensures { λ r. ⌜
+        delivered (countedOf r) (now (out .exit))
+        ≡ deliver
+        (after (titleGiven (titleRecord gti «translation_type» «numbering_plan» «nature_of_address» (now (digits .entry)) count))
+        (writeTitle builtIn))
+        (now (out .entry)) ⌝ }
+{
+    if 255 < count {
+        return Counted::Refused(Refusal::TooManyDigits(count));
+    }
+    let length = 8 + (count + 1) / 2;
+    if out.len() < length {
+        let answer = bcd::gt_digits_length(&digits[..count]);
+        return refused_first(answer, Refusal::OutputTooSmall(length));
+    }
+    match bcd::encode_gt_digits(&digits[..count], &mut out[8..]) {
+        Counted::Refused(r) => Counted::Refused(r),
+        Counted::Count(_) => {
+            let head = [
+                0,
+                0,
+                0,
+                gti,
+                count as u8,
+                translation_type,
+                numbering_plan,
+                nature_of_address,
+            ];
+            bytes::copy(&head, out);
+            Counted::Count(length)
+        }
     }
 }
 
@@ -68,32 +125,14 @@ impl GlobalTitle {
             delivered (countedOf r) (now (out .exit))
             ≡ deliver (after (titleGiven self) (writeTitle builtIn)) (now (out .entry)) ⌝ }
     {
-        let count = self.count;
-        if 255 < count {
-            return Counted::Refused(Refusal::TooManyDigits(count));
-        }
-        let digits = self.digits;
-        match bcd::gt_digits_length(&digits[..count]) {
-            Counted::Refused(r) => Counted::Refused(r),
-            Counted::Count(n) => {
-                let length = 8 + n;
-                if out.len() < length {
-                    return Counted::Refused(Refusal::OutputTooSmall(length));
-                }
-                let head = [
-                    0,
-                    0,
-                    0,
-                    self.gti,
-                    count as u8,
-                    self.translation_type,
-                    self.numbering_plan,
-                    self.nature_of_address,
-                ];
-                bytes::copy(&head, out);
-                bcd::encode_gt_digits(&digits[..count], &mut out[8..]);
-                Counted::Count(length)
-            }
-        }
+        write_value(
+            self.gti,
+            self.translation_type,
+            self.numbering_plan,
+            self.nature_of_address,
+            &self.digits,
+            self.count,
+            out,
+        )
     }
 }

@@ -2,7 +2,7 @@
 use Prim.Native.Nat.{ℕ, suc, _+_, _-_, _≤_, _<_}
 use mathlib.Core.Path.{_≡_, refl, sym, ap, _∙_}
 use mathlib.Core.Bool.{Bool, true, false, _&&_, _||_}
-use mathlib.Core.Logic.{_⊎_, inl, inr, ⊎-elim}
+use mathlib.Core.Logic.{_⊎_, ⊎-elim}
 use mathlib.Core.Option.{Option, none, some, Option·map, Option·getD}
 use mathlib.Core.List.{List, [], _∷_}
 use native.Mathlib.Omega.{arith}
@@ -14,7 +14,7 @@ use Rattle.bcd.specs.Outcome.{pick}
 use Rattle.bcd.specs.Digits.{Lawful, characters, fold, place, builtIn}
 use Rattle.bcd.specs.Steps.{nibble}
 use Rattle.bcd.proofs.Outcomes.{le-or-lt}
-use Rattle.bcd.proofs.Below.{below-at}
+use Rattle.bcd.proofs.Below.{allBelow, both, below-at}
 
 -- a place is below the list's length, and the character stands there
 pub place-at : (c : ℕ) (xs : List ℕ) (h d : ℕ) → place c xs ≡ some h → (h < length xs) × (getD xs h d ≡ c)
@@ -49,51 +49,35 @@ otherwise false b e h = e
 key : (c k : ℕ) (b : Bool) → eqb c k || b ≡ true → (c ≡ k → ⊥) → b ≡ true
 key c k b e h = otherwise (eqb c k) b e (λ t. h (eqb-true c k t))
 
--- the characters 0 to 9
-pub nibble-decimal : (c : ℕ) → 48 ≤ c → c ≤ 57 → c - 48 ≡ nibble builtIn c
-nibble-decimal c low high =
-    let test : ℕ → Bool = λ i. eqb i (nibble builtIn (i + 48)) in
-    let e : c - 48 + 48 ≡ c = omega arith in
-    eqb-true _ _ (below-at 10 test refl (c - 48) (omega arith)) ∙ ap (nibble builtIn) e
+-- characters that stand one after the other, as their half octets do from h on
+pub nibble-run :
+    (first h n : ℕ)
+    → allBelow n (λ i. eqb (i + h) (nibble builtIn (i + first))) ≡ true
+    → (c : ℕ)
+    → first ≤ c
+    → c < first + n
+    → c - first + h ≡ nibble builtIn c
+nibble-run first h n all c low high =
+    let e : c - first + first ≡ c = omega arith in
+    eqb-true _ _ (below-at n (λ i. eqb (i + h) (nibble builtIn (i + first))) all (c - first) (omega arith)) ∙ ap (nibble builtIn) e
 
--- every other octet but * # and the letters
+-- a number that is not in a range
+beside : (a b c : ℕ) → (c < a) ⊎ (b < c) → leb a c && leb c b ≡ true → ⊥
+beside a b c out e =
+    let (l, h) = both (leb a c) (leb c b) e in
+    let low = leb-true a c l in
+    let high = leb-true c b h in
+    ⊎-elim (λ below. omega arith) (λ above. omega arith) out
+
+-- every other octet but 0 to 9, * # and the letters
 pub nibble-none :
-    (c : ℕ)
-    → c < 256
-    → (c < 48) ⊎ (57 < c)
-    → (c ≡ 42 → ⊥)
-    → (c ≡ 35 → ⊥)
-    → ((c ≡ 65) ⊎ (c ≡ 97) → ⊥)
-    → ((c ≡ 66) ⊎ (c ≡ 98) → ⊥)
-    → ((c ≡ 67) ⊎ (c ≡ 99) → ⊥)
-    → 16 ≡ nibble builtIn c
-nibble-none c small out star hash a b c′ =
+    (c : ℕ) → c < 256 → (c < 48) ⊎ (57 < c) → (c ≡ 42 → ⊥) → (c ≡ 35 → ⊥) → (c < 97) ⊎ (99 < c) → (c < 65) ⊎ (67 < c) → 16 ≡ nibble builtIn c
+nibble-none c small decimal star hash letter capital =
     let test : ℕ → Bool =
     λ i. (leb 48 i && leb i 57)
-    || (eqb i 42 || (eqb i 35 || (eqb i 65 || (eqb i 97 || (eqb i 66 || (eqb i 98 || (eqb i 67 || (eqb i 99 || eqb 16 (nibble builtIn i))))))))) in
-    let outside : leb 48 c && leb c 57 ≡ true → ⊥ = ⊎-elim below above out in
-    eqb-true _ _
-    (key c 99 _
-    (key c 67 _
-    (key c 98 _
-    (key c 66 _
-    (key c 97 _
-    (key c 65 _ (key c 35 _ (key c 42 _ (otherwise _ _ (below-at 256 test refl c small) outside) star) hash) (λ e. a (inl e)))
-    (λ e. a (inr e)))
-    (λ e. b (inl e)))
-    (λ e. b (inr e)))
-    (λ e. c′ (inl e)))
-    (λ e. c′ (inr e)))
-  where
-    below : c < 48 → leb 48 c && leb c 57 ≡ true → ⊥
-    below h e = let t = lt-leb 48 c h in let z : _≡_ {A = ℕ} 0 1 = cc (ap (λ t. t && leb c 57) t) in omega arith
-
-    above : 57 < c → leb 48 c && leb c 57 ≡ true → ⊥
-    above h e =
-        let s = lt-leb c 57 h in
-        let t = le-leb 48 c (omega arith) in
-        let z : _≡_ {A = ℕ} 0 1 = cc (ap (λ t. t && leb c 57) t) in
-        omega arith
+    || (eqb i 42 || (eqb i 35 || ((leb 97 i && leb i 99) || ((leb 65 i && leb i 67) || eqb 16 (nibble builtIn i))))) in
+    let behind = key c 35 _ (key c 42 _ (otherwise _ _ (below-at 256 test refl c small) (beside 48 57 c decimal)) star) hash in
+    eqb-true _ _ (otherwise _ _ (otherwise _ _ behind (beside 97 99 c letter)) (beside 65 67 c capital))
 
 -- the built-in characters are a lawful alphabet
 pub builtIn-lawful : Lawful builtIn

@@ -11,7 +11,7 @@ use lib.Dec.{leb}
 use borrow.Author.Tests.{le-leb, lt-leb}
 use Rattle.bcd.specs.Outcome.{Outcome, accepted, refused, mapped, each, All}
 use Rattle.bcd.specs.Digits.{Alphabet, Lawful, pack, written, writeDigits}
-use Rattle.bcd.specs.Steps.{nibble}
+use Rattle.bcd.specs.Steps.{nibble, Packed}
 use Rattle.bcd.proofs.Outcomes.{accepted-inj, never, mapped-inv, demand-inv, each-inv, each-more, each-stopped}
 use Rattle.bcd.proofs.Halves.{pack-length}
 
@@ -74,6 +74,16 @@ checked-all A cs i so-far h small = all-good A cs _ small (rw (take-all i cs h) 
 
 pub packed-length : (A : Alphabet) (cs : List ℕ) → length (pack (map (nibble A) cs)) ≡ (length cs + 1) / 2
 packed-length A cs = rw (pack-length (map (nibble A) cs), length-map cs (nibble A))
+
+-- digits that were packed: a refusal, and octets that stand in front of a buffer
+pub packed-bad : {A : Alphabet} {cs d : List ℕ} {n : ℕ} {vs : List ℕ} → writeDigits A cs ≡ refused n vs → Packed A cs (refused n vs) d
+packed-bad e = record { counted = sym (ap (mapped length) e); octets = sym e }
+
+pub packed-good : {A : Alphabet} {cs os d : List ℕ} (n : ℕ) → writeDigits A cs ≡ accepted os → length os ≡ n → take n d ≡ os → Packed A cs (accepted n) d
+packed-good n e l t = record { counted = ap accepted (sym l) ∙ sym (ap (mapped length) e); octets = ap accepted t ∙ sym e }
+
+pub packed-count : {A : Alphabet} {cs d : List ℕ} {n : ℕ} → Packed A cs (accepted n) d → length (take n d) ≡ n
+packed-count p = accepted-inj (ap (mapped length) (p .octets) ∙ sym (p .counted))
 
 -- what digits that are written tell of themselves
 pub record Good (A : Alphabet) (cs : List ℕ) (n : ℕ) : Type 0 where

@@ -69,6 +69,10 @@ extend-all {out} {p} {d} q a k b n f e =
     let short : length (midOf a k d) ≤ length q = simp (length-take, length-drop) (omega arith) in
     extend q q a k b n f (omega arith) (rw (drop-of-length-le (midOf a k d) short, append-nil) refl)
 
+-- what was written stands in front
+pub in-front : {out p d : List ℕ} (n : ℕ) → Begun out p d → length p ≡ n → take n d ≡ p
+in-front {out} {p} {d} n b e = rw (b .holds) (take-at p (drop (length p) out) n e)
+
 -- what was begun with the octets is delivered
 pub delivered : {out os d : List ℕ} (n : ℕ) → Begun out os d → length os ≡ n → record { answer = accepted n; buffer = d } ≡ deliver (accepted os) out
 delivered {out} {os} {d} n b e = rw (b .holds, ← e) (deliver-fits os out (b .fits))

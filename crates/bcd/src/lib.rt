@@ -5,13 +5,12 @@ pub mod rewrite;
 use error::Counted;
 use error::Refusal;
 ghost use mathlib.Core.Path.{_≡_};
-ghost use Prim.Native.Nat.{ℕ, _+_, _*_, _/_, _≤_, _<_, min};
-ghost use mathlib.Core.List.{List, map};
+ghost use Prim.Native.Nat.{_*_, _≤_, _<_, min};
 ghost use lib.ListN.{length, getD, replicate};
-ghost use Rattle.bcd.specs.Outcome.{accepted, mapped, All, delivered, deliver};
+ghost use Rattle.bcd.specs.Outcome.{accepted, mapped, delivered, deliver};
 ghost use Rattle.bcd.specs.Answers.{countedOf};
-ghost use Rattle.bcd.specs.Digits.{halves, pack, builtIn, digitsIn, readDigits, writeDigits};
-ghost use Rattle.bcd.specs.Steps.{nibble};
+ghost use Rattle.bcd.specs.Digits.{halves, builtIn, digitsIn, readDigits, writeDigits};
+ghost use Rattle.bcd.specs.Steps.{nibble, Packed};
 
 // What reading digits answers: how many there are, or why none were read; and the digits in front of zeros, or zeros
 // alone.
@@ -20,19 +19,27 @@ pub struct GtDigits {
     pub digits: [u8; 255],
 }
 
-// The half octet that a digit is written as, or 16 where the octet is no digit.
+// The half octet that a digit is written as, or 16 where the octet is no digit. Comparisons, and no `match`, whose jump table
+// takes five times as long.
 fn char_to_nibble(digit: u8) -> u8
     ensures { λ r. ⌜ r ≡ nibble builtIn digit ⌝ }
 {
-    match digit {
-        b'0'..=b'9' => digit - b'0',
-        b'*' => 0x0A,
-        b'#' => 0x0B,
-        b'a' | b'A' => 0x0C,
-        b'b' | b'B' => 0x0D,
-        b'c' | b'C' => 0x0E,
-        _ => 16,
+    if b'0' <= digit && digit <= b'9' {
+        return digit - b'0';
     }
+    if digit == b'*' {
+        return 0x0A;
+    }
+    if digit == b'#' {
+        return 0x0B;
+    }
+    if b'a' <= digit && digit <= b'c' {
+        return digit - b'a' + 0x0C;
+    }
+    if b'A' <= digit && digit <= b'C' {
+        return digit - b'A' + 0x0C;
+    }
+    16
 }
 
 // The digit that a half octet reads as.
@@ -69,32 +76,40 @@ pub fn gt_digits_length(digits: &[u8]) -> Counted
     Counted::Count((n + 1) / 2)
 }
 
-// The octet at place k of what digits are written as: two of them, or the odd last one with 0 in the high half.
-fn octet_at(digits: &[u8], k: usize) -> u8
-    requires { ⌜ 2 * k < length (now digits) ⌝ }
-    requires { ⌜ All (λ (digit : ℕ). nibble builtIn digit ≤ 15) (now digits) ⌝ }
-    ensures { λ r. ⌜ r ≡ getD (pack (map (nibble builtIn) (now (digits .entry)))) k 0 ⌝ }
+// Makes the octets of at most 255 digits, each straight from its two digits or from the odd last one. 9 at the first octet that
+// is no digit. The checker does not know an array's length behind a `&mut`, so it is required.
+fn pack_digits(digits: &[u8], packed: &mut [u8; 128]) -> Counted
+    requires { ⌜ length (now digits) ≤ 255 ⌝ }
+    requires { ⌜ length (now packed) ≡ 128 ⌝ }
+    ensures { λ r. ⌜ Packed builtIn (now (digits .entry)) (countedOf r) (now (packed .exit)) ⌝ }
 {
-    let low = char_to_nibble(digits[2 * k]);
-    if 2 * k + 1 < digits.len() {
-        return char_to_nibble(digits[2 * k + 1]) * 16 + low;
-    }
-    low
-}
-
-// Writes digits that have been checked.
-fn pack_digits(digits: &[u8], n: usize, out: &mut [u8])
-    requires { ⌜ accepted n ≡ mapped length (writeDigits builtIn (now digits)) ⌝ }
-    requires { ⌜ n ≤ length (now out) ⌝ }
-    ensures { λ _. ⌜
-        delivered (accepted n) (now (out .exit))
-        ≡ deliver (writeDigits builtIn (now (digits .entry))) (now (out .entry)) ⌝ }
-{
+    let given = digits.len();
+    let whole = given / 2;
     let mut k = 0;
-    while k < n {
-        out[k] = octet_at(digits, k);
+    while k < whole {
+        let first = digits[2 * k];
+        let second = digits[2 * k + 1];
+        let low = char_to_nibble(first);
+        let high = char_to_nibble(second);
+        if 15 < low {
+            return Counted::Refused(Refusal::InvalidBcdDigit(first));
+        }
+        if 15 < high {
+            return Counted::Refused(Refusal::InvalidBcdDigit(second));
+        }
+        packed[k] = high * 16 + low;
         k += 1;
     }
+    if 2 * whole < given {
+        let last = digits[2 * whole];
+        let low = char_to_nibble(last);
+        if 15 < low {
+            return Counted::Refused(Refusal::InvalidBcdDigit(last));
+        }
+        packed[whole] = low;
+        return Counted::Count(whole + 1);
+    }
+    Counted::Count(whole)
 }
 
 // Writes digits, two to an octet. 11, then 9 at the first octet that is no digit, then 14.
@@ -103,13 +118,18 @@ pub fn encode_gt_digits(digits: &[u8], out: &mut [u8]) -> Counted
         delivered (countedOf r) (now (out .exit))
         ≡ deliver (writeDigits builtIn (now (digits .entry))) (now (out .entry)) ⌝ }
 {
-    match gt_digits_length(digits) {
+    let given = digits.len();
+    if 255 < given {
+        return Counted::Refused(Refusal::TooManyDigits(given));
+    }
+    let mut packed = [0u8; 128];
+    match pack_digits(digits, &mut packed) {
         Counted::Refused(r) => Counted::Refused(r),
         Counted::Count(n) => {
             if out.len() < n {
                 return Counted::Refused(Refusal::OutputTooSmall(n));
             }
-            pack_digits(digits, n, out);
+            bytes::copy(&packed[..n], out);
             Counted::Count(n)
         }
     }

@@ -1,8 +1,11 @@
 // Does a work as many rounds as standard input says, so that it can be timed from outside, and prints a sum of all answers.
-// Standard input is an octet for the work (1: the seven accessors of the handling fields, 2: the screen, else nothing), four for
-// the number of rounds, and a message of at most 8,191 octets and 1,000 parameters.
+// Standard input is an octet for the work, four for the number of rounds, and what the work is done on. Up to 2 (1: the seven
+// accessors of the handling fields, 2: the screen, 0: nothing), a message of at most 8,191 octets and 1,000 parameters. Above 2
+// (3: digits written, 4: a title with them, 5: an address with that, else nothing), an octet for the length of the output, and
+// at most 255 digits.
 mod handling;
 mod sums;
+mod titles;
 
 use bcd::smaller;
 use libc::STDIN_FILENO;
@@ -60,15 +63,20 @@ fn main() {
     io::read_full(STDIN_FILENO, &mut order);
     let n = io::read_full(STDIN_FILENO, &mut octets);
     let rounds = there(as_u32(&order[1..5]));
-    let sum = answer(
-        order[0],
-        rounds,
-        n,
-        &mut octets,
-        &mut tags,
-        &mut starts,
-        &mut lengths,
-    );
+    let work = order[0];
+    let sum = if 2 < work {
+        titles::rounds(work, rounds, n, &mut octets)
+    } else {
+        answer(
+            work,
+            rounds,
+            n,
+            &mut octets,
+            &mut tags,
+            &mut starts,
+            &mut lengths,
+        )
+    };
     io::print_decimal(STDOUT_FILENO, sum);
     io::write_all(STDOUT_FILENO, b"\n");
 }

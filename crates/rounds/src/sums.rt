@@ -17,7 +17,7 @@ pub(crate) fn add(sum: u64, n: u64) -> u64 {
     wrapping_add_u64(twice, wrapping_add_u64(sum, n))
 }
 
-fn add_octet(sum: u64, n: u8) -> u64 {
+pub(crate) fn add_octet(sum: u64, n: u8) -> u64 {
     add(sum, n as u64)
 }
 
@@ -26,7 +26,7 @@ fn flag(b: bool) -> u64 {
 }
 
 // A refusal's number, beyond those of all values.
-fn refused(sum: u64, r: Refusal) -> u64 {
+pub(crate) fn refused(sum: u64, r: Refusal) -> u64 {
     add(add(sum, 5000000001), report::number(r) as u64)
 }
 

@@ -1,4 +1,4 @@
-//! Compares the port with the Rust by running both. tests/rust/run, record and bench call it.
+//! Compares the port with the Rust by running both. tests/rust/run, record, bench and titles call it.
 
 mod archive;
 mod bench;
@@ -13,6 +13,7 @@ mod replay;
 mod rows;
 mod screen;
 mod tally;
+mod titles;
 mod typed;
 
 fn main() {
@@ -27,8 +28,9 @@ fn main() {
         Some("rows") => rows::compare(&words[2]),
         Some("record") => record::record(&words[2]),
         Some("bench") => bench::bench(),
+        Some("titles") => titles::titles(),
         _ => {
-            eprintln!("compare archive|typed|tally|calls|screen COUNT SEED, rows FILE, record FOLDER, or bench");
+            eprintln!("compare archive|typed|tally|calls|screen COUNT SEED, rows FILE, record FOLDER, bench or titles");
             false
         }
     };

@@ -114,15 +114,15 @@ pub title-absent : (b : Bool) (g : GlobalTitle) (out : List ℕ) → b ≡ false
 title-absent b g out e = rw e (none-delivered out)
 
 -- Room for it.
-pub title-room : (b : Bool) (count : ℕ) (out : List ℕ) → Roomed (titleRoom b count) out → b ≡ true → (count ≤ 255) × (((count + 1) / 2 + 15) / 4 * 4 ≤ length out)
+pub title-room : (b : Bool) (count : ℕ) (out : List ℕ) → Roomed (titleRoom b count) out → b ≡ true → (count ≤ 255) × (paddedLength (8 + (count + 1) / 2) ≤ length out)
 title-room b count out y there = go (leb count 255) refl (rw there at (y .known))
   where
-    go : (t : Bool) → leb count 255 ≡ t → demand t 11 (count ∷ []) (accepted (((count + 1) / 2 + 15) / 4 * 4)) ≡ accepted (y .takes) → (count ≤ 255) × (((count + 1) / 2 + 15) / 4 * 4 ≤ length out)
+    go : (t : Bool) → leb count 255 ≡ t → demand t 11 (count ∷ []) (accepted (paddedLength (8 + (count + 1) / 2))) ≡ accepted (y .takes) → (count ≤ 255) × (paddedLength (8 + (count + 1) / 2) ≤ length out)
     go true h e = (leb-true count 255 h, omega (arith, accepted-inj e, y .room))
     go false h e = absurd (never e)
 
 module _ (b : Bool) (g : GlobalTitle) (out : List ℕ) (there : b ≡ true) (few : g .count ≤ 255) (long : 255 ≤ length (g .digits))
-    (room : ((g .count + 1) / 2 + 15) / 4 * 4 ≤ length out) where
+    (room : paddedLength (8 + (g .count + 1) / 2) ≤ length out) where
   abbrev lent : List ℕ
   lent = midOf 4 (length out - 4) out
 

@@ -1,6 +1,6 @@
 -- `address::encode::write` meets its contract: the buffer after each part.
 use borrow.Author.Needs.{needs}
-use Prim.Native.Nat.{ℕ, _+_, _-_}
+use Prim.Native.Nat.{ℕ, _+_, _-_, _≤_}
 use mathlib.Core.Path.{_≡_, refl, sym, ap, _∙_}
 use mathlib.Core.List.{List, _++_}
 use native.Mathlib.Omega.{arith}
@@ -126,17 +126,18 @@ subbed c =
 four-octets-requires : tie.Need-four-octets-requires
 four-octets-requires c κs = search needs
 
-sub-write-title : tie.Need-sub-write-title
-sub-write-title c =
+-- the head fits
+roomed : (c : tie.After-four-octets) → 4 ≤ length (start c .args .out .now)
+roomed c =
     let s = start c in
     let r = room-inv (s .args .tag) (s .args .address) (s .args .values .now) (table s) (omega (arith, long s)) (s .args .total) (s .pre .1 .0) (s .args .out .now) in
     omega (arith, r .fits, s .pre .1 .1)
 
+sub-write-title : tie.Need-sub-write-title
+sub-write-title c = let r = roomed c in omega arith
+
 part-write-title-start : tie.Need-part-write-title-start
-part-write-title-start c =
-    let s = start c in
-    let r = room-inv (s .args .tag) (s .args .address) (s .args .values .now) (table s) (omega (arith, long s)) (s .args .total) (s .pre .1 .0) (s .args .out .now) in
-    omega (arith, r .fits, s .pre .1 .1)
+part-write-title-start c = let r = roomed c in omega arith
 
 part-write-title-end : tie.Need-part-write-title-end
 part-write-title-end c = search needs

@@ -1,6 +1,6 @@
 -- `address::encode::write_title` meets its contract.
 use borrow.Author.Needs.{needs}
-use Prim.Native.Nat.{ℕ, _+_, _*_, _/_, _-_, _≤_}
+use Prim.Native.Nat.{ℕ, _+_, _/_, _-_, _≤_}
 use mathlib.Core.Path.{_≡_, sym, ap, _∙_}
 use mathlib.Core.List.{List}
 use native.Mathlib.Omega.{arith}
@@ -10,6 +10,7 @@ use Rattle.bcd.specs.Outcome.{after, deliver}
 use Rattle.bcd.specs.Answers.{countedOf}
 use Rattle.bcd.specs.Digits.{builtIn}
 use Rattle.bcd.specs.declared.error.Counted.{Counted}
+use Rattle.parameter.specs.Parameter.{paddedLength}
 use Rattle.address.specs.Address.{writeTitle}
 use Rattle.address.specs.Records.{titleGiven, titleRecord}
 use Rattle.address.proofs.GivenParts.{title-room, title-absent, title-refused, title-counted-in, title-put}
@@ -23,7 +24,7 @@ long c = search needs
 abbrev start : tie.Then1 → tie.Start
 start c = c .before .before .before
 
-roomed : (c : tie.Then1) → (start c .args .gt .count ≤ 255) × (((start c .args .gt .count + 1) / 2 + 15) / 4 * 4 ≤ length (start c .args .out .now))
+roomed : (c : tie.Then1) → (start c .args .gt .count ≤ 255) × (paddedLength (8 + (start c .args .gt .count + 1) / 2) ≤ length (start c .args .out .now))
 roomed c = let s = start c in title-room (s .args .there) (s .args .gt .count) (s .args .out .now) (s .pre .1) (c .if1 .taken)
 
 -- what writing the value answered

@@ -8,7 +8,7 @@
 #include "sua.h"
 
 static uint8_t input[1048577], out[1048576]; /* one octet more than is accepted, and the longest form */
-static const char values[] = {0, 2, 1, 1, 2, 2, 3, 1, 1, 1, 2, 1, 1, 1, 1, 0, 0}; /* how many a refusal has, by number */
+static const char values[] = {0, 2, 1, 1, 2, 2, 3, 1, 1, 1, 2, 1, 1, 1, 1, 0, 0, 0, 0}; /* how many a refusal has, by number */
 
 int main(void)
 {

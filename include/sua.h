@@ -17,7 +17,8 @@
  *      6  parameter beyond the octets, or point   15  a record of the list is not finished
  *         code or SSN too short (tag, expected,  16  a member list or rows outside the rules of
  *         actual)                                    sua_tally
- *      8  routing indicator above 4 (indicator)
+ *      8  routing indicator above 4 (indicator)   17  an address outside the rules of sua_to_sccp
+ *                                                 18  an SCCP address outside those of sua_from_sccp
  *
  * A refusal leaves the output, or the rows, as they were; nothing is written past the octets that are answered. The report
  * alone is written by every call, refused or not.
@@ -110,6 +111,52 @@ uint64_t sua_tally(const uint8_t *digits, size_t digits_len,
                    uint64_t *messages, size_t messages_len,
                    uint64_t *octets, size_t octets_len,
                    uint64_t *report, size_t report_len);
+
+/*
+ * The SCCP party address (ITU-T Q.713, 3.4) of an address value, which is the value of a source or destination address
+ * parameter (0x0102, 0x0103). The length octet that stands before a party address in an SCCP message is no part of it.
+ *
+ *     octet 1     from the lowest bit: point code there (1 bit), SSN there (1), title indicator (4: 0 or 4), routing (1: 0 is
+ *                 on title, 1 on SSN), 0 (1)
+ *     if there    point code (2 octets, the low one first), SSN (1)
+ *     title 4     translation type (1); numbering plan in the high half and encoding scheme (1 odd, 2 even) in the low half
+ *                 (1); nature of address (1); digits, two to an octet, the first in the low half, with a last half of 0
+ *                 behind an odd number
+ *
+ * The value is read as sua_settle reads an address. Refused as 17 unless all of these hold:
+ *
+ *     routing indicator 1 or 2
+ *     each include bit is set exactly where its part, title, point code or SSN, is there
+ *     no other sub-parameters
+ *     a title has indicator 4, a numbering plan up to 15, a nature of address up to 127 and no digit that is half octet 15
+ *     a point code is at most 16,383
+ *
+ * Refusals in order: 12, 1, 8, 5 or 6 of the walk, each sub-parameter's 1 or 6; then 17; then 14.
+ *
+ * A party address has at most 135 octets: an output of that length is always long enough. sua_from_sccp takes it, and gives
+ * an address value with the same meaning.
+ */
+uint64_t sua_to_sccp(const uint8_t *value, size_t value_len,
+                     uint8_t *out, size_t out_len,
+                     uint64_t *report, size_t report_len);
+
+/*
+ * The address value of an SCCP party address, laid out as above: title, point code and SSN, each if it is there, and its
+ * include bit then set. Refused as 18 where the octets
+ *
+ *     end early, or go on behind the last part
+ *     have a reserved bit set: the high bit of the first octet or of the nature, the two high bits of the point code
+ *     have a title indicator other than 0 and 4, or an encoding scheme other than 1 and 2
+ *     have no digits with scheme 1, over 255 digits, a last half other than 0 behind an odd number, or a half octet 15
+ *
+ * Refusals in order: 12, 18, 14.
+ *
+ * An address value has at most 160 octets: an output of that length is always long enough. sua_to_sccp takes it, and gives
+ * the same octets.
+ */
+uint64_t sua_from_sccp(const uint8_t *octets, size_t octets_len,
+                       uint8_t *out, size_t out_len,
+                       uint64_t *report, size_t report_len);
 
 #ifdef __cplusplus
 }

@@ -44,6 +44,22 @@ extern "C" {
         report: *mut u64,
         report_len: usize,
     ) -> u64;
+    fn sua_to_sccp(
+        value: *const u8,
+        value_len: usize,
+        out: *mut u8,
+        out_len: usize,
+        report: *mut u64,
+        report_len: usize,
+    ) -> u64;
+    fn sua_from_sccp(
+        octets: *const u8,
+        octets_len: usize,
+        out: *mut u8,
+        out_len: usize,
+        report: *mut u64,
+        report_len: usize,
+    ) -> u64;
 }
 
 pub(crate) fn settle(input: &[u8], out: &mut [u8]) -> Report {
@@ -120,6 +136,38 @@ pub(crate) fn tally(
             messages.len(),
             octets.as_mut_ptr(),
             octets.len(),
+            report.as_mut_ptr(),
+            report.len(),
+        )
+    };
+    report
+}
+
+pub(crate) fn to_sccp(value: &[u8], out: &mut [u8]) -> Report {
+    let mut report = [0; 4];
+    // SAFETY: as in `settle`.
+    unsafe {
+        sua_to_sccp(
+            value.as_ptr(),
+            value.len(),
+            out.as_mut_ptr(),
+            out.len(),
+            report.as_mut_ptr(),
+            report.len(),
+        )
+    };
+    report
+}
+
+pub(crate) fn from_sccp(octets: &[u8], out: &mut [u8]) -> Report {
+    let mut report = [0; 4];
+    // SAFETY: as in `settle`.
+    unsafe {
+        sua_from_sccp(
+            octets.as_ptr(),
+            octets.len(),
+            out.as_mut_ptr(),
+            out.len(),
             report.as_mut_ptr(),
             report.len(),
         )

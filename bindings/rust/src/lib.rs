@@ -1,5 +1,5 @@
 //! SUA (RFC 3868) messages, read, written, settled and tallied by the proved codec of Navrost
-//! (libsua.a).
+//! (libsua.a), and their addresses to and from SCCP.
 //!
 //! The settled form of a message depends on what it means and on nothing else: the copies of one
 //! text that two gateways sent have the same form, octet for octet.
@@ -49,6 +49,7 @@ mod account;
 #[allow(unsafe_code)]
 mod entries;
 mod refusal;
+mod sccp;
 mod tally;
 
 pub use account::{
@@ -56,6 +57,7 @@ pub use account::{
     DESTINATION_ADDRESS, SOURCE_ADDRESS,
 };
 pub use refusal::{Refusal, Values};
+pub use sccp::{from_sccp, to_sccp};
 pub use tally::{tally, Members, Row, Tally};
 
 use refusal::answer;

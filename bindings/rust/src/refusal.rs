@@ -72,10 +72,15 @@ pub enum Refusal {
     OutsideSlice,
     /// 16: a member list or rows outside the rules of [`tally`](crate::tally()).
     InvalidTally,
+    /// 17: an address that does not convert by the rules of [`to_sccp`](crate::to_sccp).
+    UnconvertibleAddress,
+    /// 18: octets that are no SCCP party address, or one that does not convert by the rules of
+    /// [`from_sccp`](crate::from_sccp).
+    InvalidSccpAddress,
 }
 
 impl Refusal {
-    /// The refusal's number, 1 to 16.
+    /// The refusal's number, 1 to 18.
     pub fn number(&self) -> u8 {
         self.numbered().0
     }
@@ -111,11 +116,13 @@ impl Refusal {
             Refusal::OutputTooSmall(length) => (14, Values::one(length)),
             Refusal::OutsideSlice => (15, Values::none()),
             Refusal::InvalidTally => (16, Values::none()),
+            Refusal::UnconvertibleAddress => (17, Values::none()),
+            Refusal::InvalidSccpAddress => (18, Values::none()),
         }
     }
 
     /// The refusal of a report. Each value has the width of its field, so that no cast cuts one
-    /// short. A number above 16 does not come; it would be taken as 16.
+    /// short. A number above 18 does not come; it would be taken as 18.
     fn of(report: Report) -> Refusal {
         let [number, a, b, c] = report;
         match number {
@@ -150,9 +157,11 @@ impl Refusal {
             13 => Refusal::TableTooSmall(a),
             14 => Refusal::OutputTooSmall(a),
             15 => Refusal::OutsideSlice,
+            16 => Refusal::InvalidTally,
+            17 => Refusal::UnconvertibleAddress,
             _ => {
-                debug_assert_eq!(number, 16, "no refusal has this number");
-                Refusal::InvalidTally
+                debug_assert_eq!(number, 18, "no refusal has this number");
+                Refusal::InvalidSccpAddress
             }
         }
     }
@@ -215,6 +224,10 @@ impl fmt::Display for Refusal {
             Refusal::OutputTooSmall(length) => write!(f, "the output needs {} octets", length),
             Refusal::OutsideSlice => write!(f, "a record of the list is not finished"),
             Refusal::InvalidTally => write!(f, "the member list or the rows break the rules"),
+            Refusal::UnconvertibleAddress => write!(f, "the address has no SCCP address"),
+            Refusal::InvalidSccpAddress => {
+                write!(f, "the octets are no SCCP address that converts")
+            }
         }
     }
 }
@@ -270,7 +283,7 @@ impl Deref for Values {
 mod tests {
     use super::*;
 
-    const REPORTS: [(Report, usize); 16] = [
+    const REPORTS: [(Report, usize); 18] = [
         ([1, 8, 7, 0], 2),
         ([2, 255, 0, 0], 1),
         ([3, 255, 0, 0], 1),
@@ -287,6 +300,8 @@ mod tests {
         ([14, u64::MAX, 0, 0], 1),
         ([15, 0, 0, 0], 0),
         ([16, 0, 0, 0], 0),
+        ([17, 0, 0, 0], 0),
+        ([18, 0, 0, 0], 0),
     ];
 
     #[test]

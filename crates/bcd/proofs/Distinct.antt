@@ -31,6 +31,8 @@ kinds =
     ∷ (λ vs. R.OutputTooSmall (getD vs 0 0))
     ∷ (λ vs. R.OutsideSlice)
     ∷ (λ vs. R.InvalidTally)
+    ∷ (λ vs. R.UnconvertibleAddress)
+    ∷ (λ vs. R.InvalidSccpAddress)
     ∷ []
 
 abbrev named : ℕ → List ℕ → Refusal
@@ -53,6 +55,8 @@ named-back (R.TableTooSmall n) = refl
 named-back (R.OutputTooSmall n) = refl
 named-back R.OutsideSlice = refl
 named-back R.InvalidTally = refl
+named-back R.UnconvertibleAddress = refl
+named-back R.InvalidSccpAddress = refl
 
 pub refusals-distinct : {A : Type 0} (r s : Refusal) → refusalOf {A = A} r ≡ refusalOf s → r ≡ s
 refusals-distinct {A} r s e =

@@ -26,6 +26,8 @@ numbered (R.TableTooSmall count) = (13, count ∷ [])
 numbered (R.OutputTooSmall length) = (14, length ∷ [])
 numbered R.OutsideSlice = (15, [])
 numbered R.InvalidTally = (16, [])
+numbered R.UnconvertibleAddress = (17, [])
+numbered R.InvalidSccpAddress = (18, [])
 
 abbrev pub refusalOf : {A : Type 0} → Refusal → Outcome A
 refusalOf r = refused (numbered r .0) (numbered r .1)

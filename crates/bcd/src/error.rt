@@ -50,6 +50,10 @@ pub enum Refusal {
     OutsideSlice,
     // A member list, or the rows of a tally, that cannot be taken.
     InvalidTally,
+    // An address that no SCCP party address stands for.
+    UnconvertibleAddress,
+    // Octets that are no SCCP party address, or one that does not convert.
+    InvalidSccpAddress,
 }
 
 // How many octets were written, or records stored; or why none were.

@@ -3,6 +3,8 @@ use flat::account::read;
 use flat::list::encode;
 use form::settle;
 use report::store;
+use sccp::from_sccp;
+use sccp::to_sccp;
 use tally::tally;
 ghost use mathlib.Core.Path.{_≡_};
 ghost use Rattle.bcd.specs.Outcome.{deliver};
@@ -11,6 +13,7 @@ ghost use Rattle.form.specs.Form.{settled};
 ghost use Rattle.report.specs.Report.{entered, enter};
 ghost use Rattle.flat.specs.Account.{account};
 ghost use Rattle.flat.specs.Flat.{encodeFlat};
+ghost use Rattle.sccp.specs.Sccp.{toSccp, fromSccp};
 ghost use Rattle.tally.specs.Rows.{rows};
 ghost use Rattle.tally.specs.Tally.{tally};
 ghost use Rattle.entry.specs.Entries.{enteredRows, enterRows};
@@ -70,4 +73,24 @@ pub extern "C" fn sua_tally(
         (rows (now (messages .entry)) (now (octets .entry)))) (now (report .entry)) ⌝ }
 {
     store(tally(digits, lengths, input, messages, octets), report)
+}
+
+// Writes the SCCP party address of an address value. The value's reading's refusals, then 17, then 14.
+#[no_mangle]
+pub extern "C" fn sua_to_sccp(value: &[u8], out: &mut [u8], report: &mut [u64]) -> u64
+    ensures { λ r. ⌜
+        entered r (now (out .exit)) (now (report .exit))
+        ≡ enter (deliver (toSccp (now (value .entry))) (now (out .entry))) (now (report .entry)) ⌝ }
+{
+    store(to_sccp(value, out), report)
+}
+
+// Writes the address value of an SCCP party address. 12, 18, 14.
+#[no_mangle]
+pub extern "C" fn sua_from_sccp(octets: &[u8], out: &mut [u8], report: &mut [u64]) -> u64
+    ensures { λ r. ⌜
+        entered r (now (out .exit)) (now (report .exit))
+        ≡ enter (deliver (fromSccp (now (octets .entry))) (now (out .entry))) (now (report .entry)) ⌝ }
+{
+    store(from_sccp(octets, out), report)
 }

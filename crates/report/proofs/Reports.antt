@@ -32,6 +32,8 @@ number-small (R.TableTooSmall count) = omega arith
 number-small (R.OutputTooSmall length) = omega arith
 number-small R.OutsideSlice = omega arith
 number-small R.InvalidTally = omega arith
+number-small R.UnconvertibleAddress = omega arith
+number-small R.InvalidSccpAddress = omega arith
 
 pub numbers-length : (o : Outcome ℕ) → length (numbers o) ≡ 4
 numbers-length (accepted n) = refl

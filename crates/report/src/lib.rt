@@ -32,6 +32,8 @@ fn refusal_numbers(r: Refusal) -> [u64; 4]
         Refusal::OutputTooSmall(length) => [14, length as u64, 0, 0],
         Refusal::OutsideSlice => [15, 0, 0, 0],
         Refusal::InvalidTally => [16, 0, 0, 0],
+        Refusal::UnconvertibleAddress => [17, 0, 0, 0],
+        Refusal::InvalidSccpAddress => [18, 0, 0, 0],
     }
 }
 

@@ -91,6 +91,12 @@ enum-told c = search needs
 enum-told-2 : tie.Need-enum-told-2
 enum-told-2 c = search needs
 
+enum-told-3 : tie.Need-enum-told-3
+enum-told-3 c = search needs
+
+enum-told-4 : tie.Need-enum-told-4
+enum-told-4 c = search needs
+
 returns : tie.Need-returns
 returns c =
     listed (c .before .r .given .1)
@@ -155,6 +161,14 @@ returns-16 : tie.Need-returns-16
 returns-16 c =
     listed (c .enum-told2 .given .1)
 
+returns-17 : tie.Need-returns-17
+returns-17 c =
+    listed (c .enum-told3 .given .1)
+
+returns-18 : tie.Need-returns-18
+returns-18 c =
+    listed (c .enum-told4 .given .1)
+
 pub refusal-numbers-spec : {M : Type 1} → statement M
 refusal-numbers-spec =
     tie.close
@@ -186,6 +200,8 @@ refusal-numbers-spec =
     enum-known-r-14
     enum-told
     enum-told-2
+    enum-told-3
+    enum-told-4
     returns
     returns-2
     returns-3
@@ -201,4 +217,6 @@ refusal-numbers-spec =
     returns-13
     returns-14
     returns-15
-    returns-16)
+    returns-16
+    returns-17
+    returns-18)

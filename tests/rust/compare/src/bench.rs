@@ -1,5 +1,5 @@
-//! Times of the Rust and of the port in one process: settle, read with addresses, and encode; and of the port's tally beside
-//! its settle.
+//! Times of the Rust and of the port in one process: settle, read with addresses, and encode; of the port's tally beside its
+//! settle; and of its addresses to and from SCCP beside the Rust's reading of the address.
 
 use crate::archive::Entry;
 use crate::messages::parameter;
@@ -109,6 +109,7 @@ pub fn bench() -> bool {
         row(case, "encode", octets, encoded);
     }
     tallied(&cases[0].1);
+    converted(&mut r);
     true
 }
 
@@ -135,5 +136,28 @@ fn tallied(input: &[u8]) {
         );
         assert_eq!(other, if prefixes.is_empty() { [16, 0, 0, 0] } else { [0, prefixes.len() as u64 - 1, 0, 0] });
         println!("| {case} | {settled:.0} | {tallied:.0} | {:.1} |", tallied / settled);
+    }
+}
+
+/// Prints the times of an address to and from SCCP, beside the Rust's reading of its value.
+fn converted(r: &mut Random) {
+    let mut long = vec![0, 1, 0, 4];
+    long.extend(parameter(r, 0x8001, &[&[0, 0, 0, 4, 255, 0, 1, 4][..], &[0x21; 127], &[1]].concat(), false));
+    let mut routed = vec![0, 2, 0, 3];
+    routed.extend(parameter(r, 0x8002, &[0, 0, 0x12, 0x34], false));
+    routed.extend(parameter(r, 0x8003, &[0, 0, 0, 8], false));
+    let cases = [("SSN and point code", routed), ("15 digits and SSN", address(r, 1)), ("255 digits", long)];
+    println!("\n| address | Rust's reading, ns | to SCCP, ns | from SCCP, ns |");
+    println!("|---|---:|---:|---:|");
+    for (case, value) in &cases {
+        let (mut party, mut back) = ([0u8; 135], [0u8; 160]);
+        let [read, to] = times(
+            || black_box(SuaAddress::decode(value).expect("it is read")).other.len(),
+            || navrost::to_sccp(value, &mut party).expect("it converts"),
+        );
+        let n = navrost::to_sccp(value, &mut party).expect("it converts");
+        let [_, from] = times(|| 0, || navrost::from_sccp(&party[..n], &mut back).expect("it converts"));
+        assert_eq!(&back[..value.len()], value);
+        println!("| {case} | {read:.0} | {to:.0} | {from:.0} |");
     }
 }

@@ -1,4 +1,4 @@
-//! Compares the port with the Rust by running both. tests/rust/run, record, bench and titles call it.
+//! Compares the port with the Rust by running both. tests/rust/run, dissect, record, bench and titles call it.
 
 mod archive;
 mod bench;
@@ -11,6 +11,7 @@ mod random;
 mod record;
 mod replay;
 mod rows;
+mod sccp;
 mod screen;
 mod tally;
 mod titles;
@@ -23,14 +24,20 @@ fn main() {
         Some("archive") => archive::compare(number(2), number(3)),
         Some("typed") => typed::compare(number(2), number(3)),
         Some("tally") => tally::compare(number(2), number(3)),
+        Some("sccp") => sccp::compare(number(2), number(3)),
         Some("calls") => replay::compare(number(2), number(3)),
         Some("screen") => screen::compare(number(2), number(3)),
         Some("rows") => rows::compare(&words[2]),
+        Some("capture") => sccp::capture::capture(&words[2], number(3), number(4)),
+        Some("dissected") => sccp::capture::dissected(number(2), number(3)),
         Some("record") => record::record(&words[2]),
         Some("bench") => bench::bench(),
         Some("titles") => titles::titles(),
         _ => {
-            eprintln!("compare archive|typed|tally|calls|screen COUNT SEED, rows FILE, record FOLDER, bench or titles");
+            eprintln!(
+                "compare archive|typed|tally|sccp|calls|screen|dissected COUNT SEED, capture FILE COUNT SEED, rows FILE, \
+                 record FOLDER, bench or titles"
+            );
             false
         }
     };

@@ -1,0 +1,19 @@
+-- Laws and theorems that belong to no one function.
+pub mod Invalid
+pub mod Known
+pub mod Digits
+pub mod Parts
+pub mod Parties
+pub mod Values
+pub mod Back
+pub mod Exactly
+pub mod Worked
+pub mod Copying
+pub mod Writing
+pub mod PartyTests
+pub mod PartyReading
+pub mod PartyExactly
+pub mod PartyWriting
+pub mod ValueNumbers
+pub mod ValueReading
+pub mod ValueWriting

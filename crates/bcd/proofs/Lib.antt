@@ -3,6 +3,7 @@ pub mod Outcomes
 pub mod Writing
 pub mod Distinct
 pub mod Below
+pub mod Tests
 pub mod Characters
 pub mod Halves
 pub mod Writable

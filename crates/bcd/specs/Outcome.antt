@@ -1,9 +1,9 @@
 -- What a call answers, in the terms of document 01, and what it leaves in a buffer that it was lent.
 use Prim.Native.Nat.{ℕ, _<_, _-_, _^_, min}
-use mathlib.Core.Bool.{Bool, true, false}
+use mathlib.Core.Bool.{Bool, true, false, _&&_, _||_}
 use mathlib.Core.List.{List, [], _∷_, _++_}
 use lib.ListN.{length, drop}
-use lib.Dec.{leb}
+use lib.Dec.{leb, eqb}
 
 -- A value, or one of document 01's refusals ('Refused because of ..'): its number and the values returned with it.
 pub data Outcome (A : Type 0) : Type 0 where
@@ -39,6 +39,16 @@ each f (x ∷ xs) = after (f x) (λ ys. mapped (λ zs. ys ++ zs) (each f xs))
 abbrev pub All : {A : Type 0} → (A → Type 0) → List A → Type 0
 All P [] = Unit {0}
 All P (x ∷ xs) = P x × All P xs
+
+-- Every element passes a test.
+abbrev pub every : {A : Type 0} → (A → Bool) → List A → Bool
+every test [] = true
+every test (x ∷ xs) = test x && every test xs
+
+-- A number is among others, which may stand in any order and more than once.
+abbrev pub among : ℕ → List ℕ → Bool
+among n [] = false
+among n (m ∷ ms) = eqb m n || among n ms
 
 -- An octet string: each element is below 256.
 abbrev pub Octets : List ℕ → Type 0

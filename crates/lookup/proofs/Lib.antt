@@ -3,3 +3,4 @@ pub mod Accessing
 pub mod Addresses
 pub mod Passing
 pub mod Screening
+pub mod Membership

@@ -2,5 +2,6 @@
 pub mod Octets
 pub mod Accessors
 pub mod Screen
+pub mod Contexts
 pub mod Worked
 pub mod Steps

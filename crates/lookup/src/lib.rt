@@ -1,5 +1,6 @@
 // The first parameter with a tag, read: what the accessors of a message are made of (message.rs; RFC 3868, 3.9 and 3.10).
 // 15 first, if any record meets it.
+pub mod contexts;
 mod pass;
 pub mod screen;
 

@@ -11,6 +11,8 @@ use Rattle.pieces.specs.PointCodes.{codesIn}
 pub use Rattle.lookup.specs.Accessors.{ofFour, readAt, fourth, causeIn, routingContext, protocolClass, sequenceControl, ss7HopCount, sccpCause, dataAt, shown, dataPart, moved, sourceAddress, destinationAddress, octetOf, causeOf}
 unfoldable pub use Rattle.lookup.specs.Accessors.{firstRead, listAddressAt, addressFound}
 pub use Rattle.lookup.specs.Screen.{Handling, handling, screenOf}
+unfoldable pub use Rattle.lookup.specs.Contexts.{contextsIn}
+pub use Rattle.lookup.specs.Contexts.{membershipOf}
 
 -- Affected point codes (RFC 3868, 3.9): those of the first such parameter; none where there is no such parameter.
 abbrev pub codesAt : List ℕ → Option Place → List ℕ

@@ -5,6 +5,7 @@ use bcd::error::Counted;
 pub use lookup::Cause;
 pub use lookup::Octet;
 pub use lookup::SccpCause;
+pub use lookup::contexts::Membership;
 use lookup::first_address;
 use lookup::first_number;
 use lookup::fourth_octet;
@@ -36,6 +37,7 @@ ghost use Rattle.message.specs.Accessors.{sourceAddress, destinationAddr
 ghost use Rattle.address.specs.Listing.{listed};
 ghost use Rattle.pieces.specs.PointCodes.{storeCodes};
 ghost use Rattle.message.specs.Accessors.{handling, screenOf};
+ghost use Rattle.message.specs.Accessors.{contextsIn, membershipOf};
 
 impl SuaMessage {
     // The routing context. 15.
@@ -51,6 +53,23 @@ impl SuaMessage {
             (table (now (tags .entry)) (now (starts .entry)) (now (lengths .entry))) (self .count) ⌝ }
     {
         first_number(values, tags, starts, lengths, self.count, ROUTING_CONTEXT)
+    }
+
+    // Whether every routing context that the first such parameter lists is in a set, whose numbers may stand in any order. No
+    // where there is no such parameter, or its value is no positive multiple of four octets. 15.
+    pub fn contexts_in(
+        self,
+        values: &[u8],
+        tags: &[u16],
+        starts: &[usize],
+        lengths: &[usize],
+        set: &[u32],
+    ) -> Membership
+        ensures { λ r. ⌜
+            membershipOf r ≡ contextsIn (now (values .entry))
+            (table (now (tags .entry)) (now (starts .entry)) (now (lengths .entry))) (self .count) (now (set .entry)) ⌝ }
+    {
+        lookup::contexts::contexts_in(values, tags, starts, lengths, self.count, set)
     }
 
     // The protocol class. 15.

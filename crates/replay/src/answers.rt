@@ -2,6 +2,7 @@
 use bcd::error::Counted;
 use bcd::error::Refusal;
 use message::accessors::Cause;
+use message::accessors::Membership;
 use message::accessors::Octet;
 use parameter::Number;
 use parameter::Place;
@@ -11,6 +12,8 @@ pub(crate) enum Word {
     Nothing,
     Ok,
     None,
+    Yes,
+    No,
     End,
     Unknown,
     Refused,
@@ -133,5 +136,13 @@ pub(crate) fn cause(answer: Cause) -> Answer {
         Cause::Value(c) => ok(2, wide(c.cause_type), wide(c.cause_value), 0, 0),
         Cause::None => bare(Word::None),
         Cause::Refused(r) => refused(r),
+    }
+}
+
+pub(crate) fn membership(answer: Membership) -> Answer {
+    match answer {
+        Membership::Yes => bare(Word::Yes),
+        Membership::No => bare(Word::No),
+        Membership::Refused(r) => refused(r),
     }
 }

@@ -91,7 +91,7 @@ fn table_place(name: &[u8]) -> usize {
     1
 }
 
-// The answer of a call that writes no buffer and is given a table, or 0.
+// The answer of a call that writes no buffer and is given a table, or 0. Behind the table the numbers go on at `end`.
 fn with_table(
     name: &[u8],
     n: &[u64],
@@ -99,6 +99,7 @@ fn with_table(
     tags: &[u16],
     starts: &[usize],
     lengths: &[usize],
+    end: usize,
     list: &mut [u32],
     line: &mut [u8],
 ) -> usize {
@@ -111,7 +112,7 @@ fn with_table(
     if 0 < address {
         return lent::address_call(address, m, n, a, tags, starts, lengths, line);
     }
-    let other = place(name, b"data affected_point_codes screen");
+    let other = place(name, b"data affected_point_codes screen contexts_in");
     match other {
         1 => tables::data(m, a, tags, starts, lengths, line),
         2 => tables::affected_point_codes(
@@ -124,6 +125,7 @@ fn with_table(
             line,
         ),
         3 => screen::call(m, n, a, tags, starts, lengths, line),
+        4 => tables::contexts_in(m, n, end, a, tags, starts, lengths, list, line),
         _ => 0,
     }
 }
@@ -144,6 +146,7 @@ fn tabled(name: &[u8], n: &[u64], a: &[u8], list: &mut [u32], line: &mut [u8]) -
         &tags[0..t],
         &starts[0..s],
         &lengths[0..l],
+        shape.end,
         list,
         line,
     )

@@ -187,6 +187,8 @@ fn word(w: Word, line: &mut [u8]) -> usize {
         Word::Nothing => 0,
         Word::Ok => put_octets(b"ok", 0, line),
         Word::None => put_octets(b"none", 0, line),
+        Word::Yes => put_octets(b"yes", 0, line),
+        Word::No => put_octets(b"no", 0, line),
         Word::End => put_octets(b"end", 0, line),
         Word::Unknown => put_octets(b"unknown", 0, line),
         Word::Refused => put_octets(b"refused", 0, line),

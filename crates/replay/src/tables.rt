@@ -5,11 +5,14 @@ use crate::answers::bare;
 use crate::answers::cause;
 use crate::answers::counted;
 use crate::answers::found;
+use crate::answers::membership;
 use crate::answers::number;
 use crate::answers::octet;
+use crate::print::answer;
 use crate::print::answer_and_codes;
 use crate::print::answer_and_octets;
 use crate::records::address;
+use crate::words::codes_at;
 use crate::words::one;
 use crate::words::place;
 use crate::words::size;
@@ -80,6 +83,23 @@ pub(crate) fn affected_point_codes(
 ) -> usize {
     let answer = counted(m.affected_point_codes(values, tags, starts, lengths, room));
     answer_and_codes(answer, room, line)
+}
+
+// Whether the routing contexts are all in the set whose list stands at a place.
+pub(crate) fn contexts_in(
+    m: SuaMessage,
+    n: &[u64],
+    at: usize,
+    values: &[u8],
+    tags: &[u16],
+    starts: &[usize],
+    lengths: &[usize],
+    set: &mut [u32],
+    line: &mut [u8],
+) -> usize {
+    let count = codes_at(n, at, set);
+    let given = m.contexts_in(values, tags, starts, lengths, &set[0..count]);
+    answer(membership(given), line)
 }
 
 fn message_encode(

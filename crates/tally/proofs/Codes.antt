@@ -2,7 +2,7 @@
 use Prim.Native.Nat.{ℕ, _+_, _-_, _*_, _^_, _≤_, _<_}
 use mathlib.Core.Path.{_≡_, refl, sym, ap, ap₂, _∙_}
 use mathlib.Core.Logic.{⊎-elim}
-use mathlib.Core.Bool.{Bool, true, false, not, _&&_, _||_, and-false, or-false, or-assoc}
+use mathlib.Core.Bool.{Bool, true, false, not, _&&_, _||_, and-false, or-false}
 use mathlib.Core.List.{List, [], _∷_, _++_}
 use native.Mathlib.Omega.{arith}
 use native.Mathlib.Numerals.{add-one}
@@ -11,12 +11,14 @@ use lib.Dec.{lit<, eqb}
 use lib.ListN.{length, getD, take, drop, length-map, take-append-drop}
 use lib.Seq.{take-suc, take-take}
 use borrow.Author.Tests.{eq-eqb, eqb-true}
+use Rattle.bcd.specs.Outcome.{among}
 use Rattle.bcd.proofs.Outcomes.{le-or-lt}
 use Rattle.bcd.proofs.Halves.{Nibbles}
 use Rattle.bcd.proofs.Below.{both}
+use Rattle.bcd.proofs.Tests.{agree, among-append}
 use Rattle.tally.specs.Members.{between, every, same, distinct}
-use Rattle.tally.specs.Steps.Codes.{codeFrom, code, values, codes, among, unlike, Kept}
-use Rattle.tally.proofs.Lists.{agree, between-inv}
+use Rattle.tally.specs.Steps.Codes.{codeFrom, code, values, codes, unlike, Kept}
+use Rattle.tally.proofs.Lists.{between-inv}
 use Rattle.tally.proofs.Beginning.{same-true, same-self}
 
 -- the number of half octets goes on from that of the first ones
@@ -129,16 +131,6 @@ coded-most hs i n h c = omega (arith, c .1, pow-le-pow-right {n = 16} (lit< tt) 
 -- as many lengths as members
 pub kept-count : {ps : List (List ℕ)} {lengths held : List ℕ} → Kept ps lengths held → length lengths ≡ length ps
 kept-count {ps} k = ap length (k .sizes) ∙ length-map ps length
-
--- a number among the first i, and among one more
-among-append : (n : ℕ) (ms ks : List ℕ) → among n (ms ++ ks) ≡ (among n ms || among n ks)
-among-append n [] ks = refl
-among-append n (m ∷ ms) ks = rw (among-append n ms ks) (sym (or-assoc (eqb m n) (among n ms) (among n ks)))
-
-pub among-next : (n : ℕ) (ms : List ℕ) (i : ℕ) → i < length ms → among n (take (i + 1) ms) ≡ (among n (take i ms) || eqb (getD ms i 0) n)
-among-next n ms i h =
-    rw (add-one, take-suc ms i 0 h, among-append n (take i ms) (getD ms i 0 ∷ []))
-    (ap (λ b. among n (take i ms) || b) (or-false (eqb (getD ms i 0) n)))
 
 -- no two of the first i are the same, and the next is not among them
 unlike-append : (ns : List ℕ) (n : ℕ) → unlike (ns ++ (n ∷ [])) ≡ (unlike ns && not (among n ns))

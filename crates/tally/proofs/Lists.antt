@@ -10,13 +10,8 @@ use lib.ListN.{length, getD, take, drop}
 use lib.Seq.{take-suc}
 use borrow.Author.Tests.{le-leb, lt-leb, leb-true}
 use Rattle.bcd.proofs.Below.{both}
+use Rattle.bcd.proofs.Tests.{agree}
 use Rattle.tally.specs.Members.{between, every, sum}
-
--- two tests that tell the same
-pub agree : (a b : Bool) → (a ≡ true → b ≡ true) → (b ≡ true → a ≡ true) → a ≡ b
-agree true b f g = sym (f refl)
-agree false true f g = g refl
-agree false false f g = refl
 
 -- a number from one to another
 pub between-inv : (low high n : ℕ) → between low high n ≡ true → (low ≤ n) × (n ≤ high)

@@ -5,14 +5,14 @@ use mathlib.Core.Bool.{Bool, true, false, not, _&&_}
 use mathlib.Core.Logic.{_↔_, Iff·rfl}
 use mathlib.Core.List.{List, [], _∷_, _++_, map, flatten}
 use native.Mathlib.Omega.{arith}
-use lib.Dec.{leb, ltb, eqb}
 use lib.ListN.{length, getD, take, drop, length-append, length-map, length-drop, take-append-drop}
 use lib.Seq.{take-append-seam, drop-append-seam, length-take-le}
-use borrow.Author.Tests.{eq-eqb, eqb-true, lt-ltb, ltb-true, le-leb, leb-true, not-true}
+use borrow.Author.Tests.{eqb-true, not-true}
 use Rattle.bcd.specs.Outcome.{All}
 use Rattle.bcd.proofs.Outcomes.{all-at}
 use Rattle.parameter.specs.Parameter.{mostValue}
 use Rattle.bcd.proofs.Below.{both}
+use Rattle.bcd.proofs.Tests.{and-iff, eqb-iff, ltb-iff, leb-iff, every-iff}
 use Rattle.tally.specs.Members.{between, every, sum, same, members, distinct, validLengths, validMembers}
 use Rattle.tally.specs.Rows.{Rows, mostMessages, within, validRows}
 use Rattle.tally.specs.Facts.{MemberList, OpenRows}
@@ -22,32 +22,11 @@ use Rattle.tally.proofs.Lists.{between-inv, between-in, every-append}
 on-not-off : {t : Bool} → t ≡ true → t ≡ false → ⊥
 on-not-off {t} e f = let z : _≡_ {A = ℕ} 0 1 = cc in omega arith
 
--- Two tests pass exactly where each does.
-and-iff : {P Q : Type 0} {a b : Bool} → (a ≡ true) ↔ P → (b ≡ true) ↔ Q → (a && b ≡ true) ↔ (P × Q)
-and-iff {P} {Q} {a} {b} p q = (
-  (λ e. let (x, y) = both a b e in (p .0 x, q .0 y)),
-  (λ (x, y). let h = p .1 x in rw h (q .1 y)),
-)
-
 moved : {P : Type 0} {a b : Bool} → a ≡ b → (b ≡ true) ↔ P → (a ≡ true) ↔ P
 moved e h = ((λ t. h .0 (sym e ∙ t)), (λ x. e ∙ h .1 x))
 
 between-iff : (low high n : ℕ) → (between low high n ≡ true) ↔ ((low ≤ n) × (n ≤ high))
 between-iff low high n = (between-inv low high n, (λ (l, h). between-in low high n l h))
-
-eqb-iff : (m n : ℕ) → (eqb m n ≡ true) ↔ (m ≡ n)
-eqb-iff m n = (eqb-true m n, eq-eqb m n)
-
-ltb-iff : (m n : ℕ) → (ltb m n ≡ true) ↔ (m < n)
-ltb-iff m n = (ltb-true m n, lt-ltb m n)
-
-leb-iff : (m n : ℕ) → (leb m n ≡ true) ↔ (m ≤ n)
-leb-iff m n = (leb-true m n, le-leb m n)
-
--- A test of every element.
-every-iff : {A : Type 0} {test : A → Bool} {P : A → Type 0} → ((x : A) → (test x ≡ true) ↔ P x) → (xs : List A) → (every test xs ≡ true) ↔ All P xs
-every-iff h [] = ((λ e. tt), (λ u. refl))
-every-iff h (x ∷ xs) = and-iff (h x) (every-iff h xs)
 
 every-map : {A B : Type 0} (test : B → Bool) (f : A → B) (xs : List A) → every test (map f xs) ≡ every (λ x. test (f x)) xs
 every-map test f [] = refl

@@ -5,15 +5,11 @@ use mathlib.Core.List.{List, [], _∷_}
 use lib.ListN.{length, take, drop}
 use lib.Dec.{leb, eqb}
 use Rattle.bcd.specs.Outcome.{pick}
+pub use Rattle.bcd.specs.Outcome.{every}
 
 -- From one number to another.
 abbrev pub between : (low high : ℕ) → ℕ → Bool
 between low high n = leb low n && leb n high
-
--- Every element passes a test.
-abbrev pub every : {A : Type 0} → (A → Bool) → List A → Bool
-every test [] = true
-every test (x ∷ xs) = test x && every test xs
 
 -- The numbers of a list, added up.
 abbrev pub sum : List ℕ → ℕ

@@ -4,8 +4,9 @@ ghost use mathlib.Core.Bool.{true};
 ghost use Prim.Native.Nat.{_≤_};
 ghost use lib.ListN.{length, take};
 ghost use Rattle.parameter.specs.Table.{over};
+ghost use Rattle.bcd.specs.Outcome.{among};
 ghost use Rattle.tally.specs.Members.{between, every, members, validLengths, validMembers};
-ghost use Rattle.tally.specs.Steps.Codes.{code, values, codes, among, unlike};
+ghost use Rattle.tally.specs.Steps.Codes.{code, values, codes, unlike};
 
 // Whether there are 1 to 64 lengths, each of 1 to 15, that add up to `total`.
 fn valid_lengths(lengths: &[u8], total: usize) -> bool
@@ -85,7 +86,7 @@ fn write_codes(digits: &[u8], lengths: &[u8], out: &mut [u64])
 
 // Whether a number is among others. All are looked at, so that the loop has no branch.
 fn among(numbers: &[u64], number: u64) -> bool
-    ensures { λ r. ⌜ r ≡ Rattle.tally.specs.Steps.Codes.among number (now (numbers .entry)) ⌝ }
+    ensures { λ r. ⌜ r ≡ Rattle.bcd.specs.Outcome.among number (now (numbers .entry)) ⌝ }
 {
     let mut found = false;
     let mut i = 0;

@@ -1,10 +1,10 @@
 -- A prefix as one number, so that prefixes are compared as numbers are: a leading 1, then four bits for each digit.
 use Prim.Native.Nat.{ℕ, _+_, _-_, _*_, _≤_}
 use mathlib.Core.Path.{_≡_}
-use mathlib.Core.Bool.{Bool, true, false, not, _&&_, _||_}
+use mathlib.Core.Bool.{Bool, true, not, _&&_}
 use mathlib.Core.List.{List, [], _∷_, map}
 use lib.ListN.{length, take}
-use lib.Dec.{eqb}
+use Rattle.bcd.specs.Outcome.{among}
 use Rattle.tally.specs.Members.{every, between}
 
 abbrev pub codeFrom : ℕ → List ℕ → ℕ
@@ -22,11 +22,7 @@ values = map (λ c. c - 0x30)
 abbrev pub codes : List (List ℕ) → List ℕ
 codes = map (λ p. code (values p))
 
--- A number is among others; and no two of them are the same.
-abbrev pub among : ℕ → List ℕ → Bool
-among n [] = false
-among n (m ∷ ms) = eqb m n || among n ms
-
+-- No two numbers are the same.
 abbrev pub unlike : List ℕ → Bool
 unlike [] = true
 unlike (n ∷ ns) = not (among n ns) && unlike ns

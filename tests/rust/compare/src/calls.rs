@@ -479,6 +479,14 @@ pub fn answer(call: &Call) -> String {
         | "affected_point_codes"
         | "source_address"
         | "destination_address" => accessors(&call.name, &mut t),
+        "contexts_in" => {
+            let (count, table, set, values) = (t.number(), t.table(), t.codes(), t.bytes());
+            match table.parameters(values, count) {
+                Ok(parameters) if contexts_in(&parameters, &set) => "yes".into(),
+                Ok(_) => "no".into(),
+                Err(r) => refused(&r),
+            }
+        }
         "screen" => screened(call).iter().map(answer).collect::<Vec<String>>().join(BETWEEN),
         "settle" => {
             let buffer = t.buffer();
@@ -736,6 +744,17 @@ fn accessors(name: &str, t: &mut Taken) -> String {
             addressed(read, others, lent)
         }
     }
+}
+
+/// Whether the first Routing Context is present and all its values are in a set (document 02, CR 6).
+fn contexts_in(parameters: &[Parameter], set: &[u32]) -> bool {
+    find_parameter(parameters, tags::ROUTING_CONTEXT).is_some_and(|context| all_in(&context.value, set))
+}
+
+/// Whether a value's length is a positive multiple of 4 and every value of 32 bits is in a set.
+pub fn all_in(value: &[u8], set: &[u32]) -> bool {
+    let is_in = |four: &[u8]| set.iter().any(|n| n.to_be_bytes() == four);
+    !value.is_empty() && value.len() % 4 == 0 && value.chunks(4).all(is_in)
 }
 
 /// A message that a constructor made, written: 10 in order.

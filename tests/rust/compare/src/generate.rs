@@ -1,12 +1,13 @@
 //! Random calls for crates/replay.
 
 use crate::calls::{answer, screened, Call, BETWEEN, SCREENED};
+use crate::contexts::made;
 use crate::messages;
 use crate::oracle::length_with_counters;
 use crate::random::Random;
 
 /// The calls, and the refusals that each can give. A call's place chooses what is recorded of it, so a new one goes last.
-pub const CALLS: [(&str, &[u64]); 62] = [
+pub const CALLS: [(&str, &[u64]); 63] = [
     ("decode_gt_digits", &[12]),
     ("encode_gt_digits", &[9, 11, 14]),
     ("gt_digits_length", &[9, 11]),
@@ -69,6 +70,7 @@ pub const CALLS: [(&str, &[u64]); 62] = [
     ("read", &[1, 2, 4, 5, 6, 8, 12, 14]),
     ("encode", &[4, 10, 12, 14, 15]),
     ("screen", &[1, 5, 6, 7, 8, 12, 13, 15]),
+    ("contexts_in", &[15]),
 ];
 
 /// How many octets there may be: 1 in so many inputs is at a bound of document 01.
@@ -498,6 +500,7 @@ impl Maker<'_> {
                 self.octets(values);
             }
             "screen" => self.screen(),
+            "contexts_in" => self.call = made::call(self.r),
             "cldt" | "cldr" => self.connectionless(name),
             "asp_up" | "asp_up_ack" | "asp_down" | "asp_down_ack" => {
                 if name == "asp_up" {

@@ -3,6 +3,7 @@
 mod archive;
 mod bench;
 mod calls;
+mod contexts;
 mod counters;
 mod generate;
 mod messages;
@@ -27,6 +28,7 @@ fn main() {
         Some("sccp") => sccp::compare(number(2), number(3)),
         Some("calls") => replay::compare(number(2), number(3)),
         Some("screen") => screen::compare(number(2), number(3)),
+        Some("contexts") => contexts::compare(number(2), number(3)),
         Some("rows") => rows::compare(&words[2]),
         Some("capture") => sccp::capture::capture(&words[2], number(3), number(4)),
         Some("dissected") => sccp::capture::dissected(number(2), number(3)),
@@ -35,8 +37,8 @@ fn main() {
         Some("titles") => titles::titles(),
         _ => {
             eprintln!(
-                "compare archive|typed|tally|sccp|calls|screen|dissected COUNT SEED, capture FILE COUNT SEED, rows FILE, \
-                 record FOLDER, bench or titles"
+                "compare archive|typed|tally|sccp|calls|screen|contexts|dissected COUNT SEED, capture FILE COUNT SEED, \
+                 rows FILE, record FOLDER, bench or titles"
             );
             false
         }

@@ -15,7 +15,7 @@ const SHORT: usize = 900;
 /// The same, where they show a refusal that nothing shorter showed.
 const LONG: usize = 60_000;
 
-/// Document 01's worked messages, and pairs and indicators in full.
+/// Document 01's worked messages, pairs and indicators in full, and routing contexts in a set.
 fn worked() -> Vec<String> {
     let asp = "0100030100000008";
     let messages = [
@@ -56,6 +56,10 @@ fn worked() -> Vec<String> {
         "settle 65600 x010007010000000001 02fffc000200008005fff4+42*65520",
     ] {
         lines.push(line.replacen("01 02", "0102", 1));
+    }
+    // Contexts 7 and 9: both in the set, one, both by their low halves alone; an unfinished group; 7 by itself; no octets.
+    for (length, set) in [(8, "2 9 7"), (8, "1 7"), (8, "1 9"), (8, "2 65543 65545"), (7, "2 7 9"), (4, "1 7"), (0, "1 7")] {
+        lines.push(format!("contexts_in 1 1 6 1 0 1 {length} {set} x0000000700000009"));
     }
     for class in 0..=11 {
         for msg_type in 0..=12 {

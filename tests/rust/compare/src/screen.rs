@@ -1,12 +1,12 @@
 //! `screen` beside the seven accessors whose answers it gives, over random tables, all through crates/replay.
 
-mod kinds;
-mod made;
+pub mod kinds;
+pub mod made;
 
 use crate::calls::{screened, Call, BETWEEN, SCREENED};
 use crate::random::Random;
 use crate::replay::replay;
-use kinds::Kind;
+use kinds::{listed, Kind};
 use std::collections::BTreeMap;
 
 /// The tables that are put through the program together.
@@ -48,19 +48,6 @@ impl Check {
             }
         }
     }
-
-    /// Prints how often each kind was met; one that never was is a difference, where there were many tables.
-    fn listed(&mut self, many: bool) {
-        for (group, kinds) in kinds::groups() {
-            let times = |kind: &String| self.met.get(&(group, kind.clone())).copied().unwrap_or(0);
-            let texts: Vec<String> = kinds.iter().map(|kind| format!("{kind}: {}", times(kind))).collect();
-            println!("screen, {group}: {}", texts.join(", "));
-            for kind in kinds.iter().filter(|kind| many && times(kind) == 0) {
-                println!("screen, {group}: never met: {kind}");
-                self.differences += 1;
-            }
-        }
-    }
 }
 
 /// Compares so many random tables; true where nothing differs and, if there are many, every kind was met.
@@ -75,7 +62,7 @@ pub fn compare(count: u64, seed: u64) -> bool {
             calls.clear();
         }
     }
-    check.listed(count >= MANY);
+    check.differences += listed("screen", kinds::groups(), &check.met, count >= MANY);
     println!("screen: {count} tables, {} differences", check.differences);
     check.differences == 0
 }

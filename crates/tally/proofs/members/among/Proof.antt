@@ -6,8 +6,8 @@ use mathlib.Core.Bool.{_||_}
 use lib.Dec.{eqb}
 use lib.ListN.{length, getD, take}
 use lib.Seq.{take-all}
-use Rattle.tally.specs.Steps.Codes.{among}
-use Rattle.tally.proofs.Codes.{among-next}
+use Rattle.bcd.specs.Outcome.{among}
+use Rattle.bcd.proofs.Tests.{among-next}
 use Rattle.tally.proofs.members.among.Statement.{statement}
 use Rattle.tally.proofs.members.among.Tie as tie
 

@@ -6,7 +6,8 @@ use mathlib.Core.Bool.{true, false}
 use native.Mathlib.Omega.{arith}
 use lib.ListN.{getD, take}
 use lib.Seq.{length-take-le}
-use Rattle.tally.specs.Steps.Codes.{among, unlike}
+use Rattle.bcd.specs.Outcome.{among}
+use Rattle.tally.specs.Steps.Codes.{unlike}
 use Rattle.tally.proofs.Codes.{unlike-next, unlike-not}
 use Rattle.tally.proofs.members.distinct.Statement.{statement}
 use Rattle.tally.proofs.members.distinct.Tie as tie

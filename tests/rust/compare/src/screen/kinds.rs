@@ -1,15 +1,17 @@
-//! What kind of table a call of `screen` is given, read off its numbers and the accessors' answers.
+//! What kind of table a call of `screen` is given, read off its numbers and the accessors' answers. `contexts` shares some.
 
 use crate::calls::{Call, SCREENED};
 use crate::generate::{refusals, wanted};
+use std::collections::BTreeMap;
 
 /// The columns of a table.
 const COLUMNS: [&str; 3] = ["tags", "starts", "lengths"];
+const ALL: &str = "a count beyond all columns";
 /// What an address can be refused as, but for 15.
 const REFUSALS: [u64; 7] = [1, 5, 6, 7, 8, 12, 13];
 
 const TABLES: &str = "tables";
-const OUTSIDE: &str = "15 by";
+pub const OUTSIDE: &str = "15 by";
 const REPEATED: &str = "repeated, and a later one reads otherwise";
 const SHORT: &str = "under four octets";
 const SHORT_FIRST: &str = "under four octets, and a later one not";
@@ -21,7 +23,6 @@ pub type Kind = (&'static str, String);
 
 /// The groups of kinds that a comparison must meet.
 pub fn groups() -> Vec<(&'static str, Vec<String>)> {
-    let texts = |list: &[&str]| list.iter().map(|text| text.to_string()).collect::<Vec<String>>();
     let tables = [
         "no record",
         "64 records",
@@ -32,7 +33,6 @@ pub fn groups() -> Vec<(&'static str, Vec<String>)> {
         "all seven tags",
     ];
     let outside = [
-        "a count beyond all columns",
         "a start",
         "a length",
         "a sum over 2^64",
@@ -45,7 +45,7 @@ pub fn groups() -> Vec<(&'static str, Vec<String>)> {
     let refused = || REFUSALS.iter().map(u64::to_string).collect();
     vec![
         (TABLES, texts(&tables)),
-        (OUTSIDE, [COLUMNS.map(beyond).to_vec(), texts(&outside)].concat()),
+        (OUTSIDE, [by_count(), texts(&outside)].concat()),
         (REPEATED, texts(&SCREENED)),
         (SHORT, texts(&SCREENED[..5])),
         (SHORT_FIRST, texts(&SCREENED[..5])),
@@ -55,12 +55,36 @@ pub fn groups() -> Vec<(&'static str, Vec<String>)> {
     ]
 }
 
+pub fn texts(list: &[&str]) -> Vec<String> {
+    list.iter().map(|text| text.to_string()).collect()
+}
+
+/// Prints how often each kind was met; where there were many tables, the number that never were.
+pub fn listed(what: &str, groups: Vec<(&str, Vec<String>)>, met: &BTreeMap<Kind, u64>, many: bool) -> u64 {
+    let mut never = 0;
+    for (group, kinds) in groups {
+        let times = |kind: &String| met.get(&(group, kind.clone())).copied().unwrap_or(0);
+        let texts: Vec<String> = kinds.iter().map(|kind| format!("{kind}: {}", times(kind))).collect();
+        println!("{what}, {group}: {}", texts.join(", "));
+        for kind in kinds.iter().filter(|kind| many && times(kind) == 0) {
+            println!("{what}, {group}: never met: {kind}");
+            never += 1;
+        }
+    }
+    never
+}
+
+/// The ways in which a count is beyond a table.
+pub fn by_count() -> Vec<String> {
+    [COLUMNS.map(beyond).to_vec(), texts(&[ALL])].concat()
+}
+
 fn beyond(column: &str) -> String {
     format!("a count beyond the {column} alone")
 }
 
 /// Those kinds of a group that hold.
-fn holding(group: &'static str, kinds: &[(&str, bool)]) -> Vec<Kind> {
+pub fn holding(group: &'static str, kinds: &[(&str, bool)]) -> Vec<Kind> {
     kinds.iter().filter(|(_, holds)| *holds).map(|(kind, _)| (group, kind.to_string())).collect()
 }
 
@@ -69,51 +93,65 @@ fn is_wanted(tag: u16) -> bool {
 }
 
 /// A table as a call gives it.
-struct Table<'a> {
-    count: u64,
+pub struct Table<'a> {
+    pub count: u64,
     columns: [&'a [u64]; 3],
     values: &'a [u8],
+    /// The numbers behind it.
+    pub behind: &'a [u64],
 }
 
 impl<'a> Table<'a> {
-    fn of(call: &'a Call) -> Table<'a> {
-        let mut left = &call.numbers[7..];
+    /// The table at a place of a call's numbers.
+    pub fn of(call: &'a Call, at: usize) -> Table<'a> {
+        let mut left = &call.numbers[at..];
         let columns = [(); 3].map(|()| {
             let (column, behind) = left[1..].split_at(left[0] as usize);
             left = behind;
             column
         });
-        Table { count: call.numbers[0], columns, values: &call.octets[0] }
+        Table { count: call.numbers[0], columns, values: &call.octets[0], behind: left }
     }
 
     /// The rows that have a tag, a start and a length.
-    fn rows(&self) -> usize {
+    pub fn rows(&self) -> usize {
         self.columns.iter().map(|column| column.len()).min().unwrap_or(0)
     }
 
-    fn tag(&self, row: usize) -> u16 {
+    pub fn tag(&self, row: usize) -> u16 {
         self.columns[0][row] as u16
     }
 
     /// None where the record reaches outside the values.
-    fn value(&self, row: usize) -> Option<&'a [u8]> {
+    pub fn value(&self, row: usize) -> Option<&'a [u8]> {
         let (start, length) = (self.columns[1][row], self.columns[2][row]);
         let end = start.checked_add(length)?;
         (end <= self.values.len() as u64).then(|| &self.values[start as usize..end as usize])
+    }
+
+    /// The records that reach outside the values, where the count is not beyond a column.
+    pub fn outside(&self) -> Vec<usize> {
+        (0..self.count as usize).filter(|row| self.value(*row).is_none()).collect()
+    }
+}
+
+/// The kinds of a table whose count is beyond a column.
+pub fn count_outside(table: &Table) -> Option<Vec<Kind>> {
+    let short: Vec<usize> = (0..3).filter(|i| table.count > table.columns[*i].len() as u64).collect();
+    match short.as_slice() {
+        [] => None,
+        [column] => Some(vec![(OUTSIDE, beyond(COLUMNS[*column]))]),
+        all => Some(holding(OUTSIDE, &[(ALL, all.len() == 3)])),
     }
 }
 
 /// The kinds of a call whose accessors gave these answers.
 pub fn kinds(call: &Call, answers: &[String]) -> Vec<Kind> {
-    let table = Table::of(call);
-    let short: Vec<usize> = (0..3).filter(|i| table.count > table.columns[*i].len() as u64).collect();
-    match short.as_slice() {
-        [] => {}
-        [column] => return vec![(OUTSIDE, beyond(COLUMNS[*column]))],
-        all => return holding(OUTSIDE, &[("a count beyond all columns", all.len() == 3)]),
+    let table = Table::of(call, 7);
+    if let Some(kinds) = count_outside(&table) {
+        return kinds;
     }
-    let outside: Vec<usize> = (0..table.count as usize).filter(|row| table.value(*row).is_none()).collect();
-    match outside.as_slice() {
+    match table.outside().as_slice() {
         [] => [whole(&table), fields(&table), addresses(answers)].concat(),
         [row] => record_outside(&table, *row),
         _ => Vec::new(),

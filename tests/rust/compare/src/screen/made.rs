@@ -6,7 +6,7 @@ use crate::messages;
 use crate::random::Random;
 
 /// The records of a table, at most.
-const MOST: usize = 64;
+pub const MOST: usize = 64;
 
 /// A call of `screen`.
 pub fn call(r: &mut Random) -> Call {
@@ -95,7 +95,7 @@ fn longest(r: &mut Random) -> Vec<u8> {
 }
 
 /// Moves some records to anywhere in the values, over others.
-fn move_some(r: &mut Random, columns: &mut [Vec<u64>; 3], values: usize) {
+pub fn move_some(r: &mut Random, columns: &mut [Vec<u64>; 3], values: usize) {
     for row in 0..columns[0].len() {
         if r.once_in(20) {
             let start = r.below(values + 1);
@@ -106,7 +106,7 @@ fn move_some(r: &mut Random, columns: &mut [Vec<u64>; 3], values: usize) {
 }
 
 /// Breaks the columns, or not; the count.
-fn spoil(r: &mut Random, columns: &mut [Vec<u64>; 3], values: usize) -> u64 {
+pub fn spoil(r: &mut Random, columns: &mut [Vec<u64>; 3], values: usize) -> u64 {
     let rows = columns[0].len();
     match r.below(16) {
         0 => {

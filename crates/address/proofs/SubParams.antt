@@ -1,16 +1,16 @@
 -- Sub-parameters: what one that was read is, and that what it is written as is read back the same.
 use Prim.Native.Nat.{ℕ, _^_, _≤_, _<_}
 use mathlib.Core.Path.{_≡_, refl, ap, _∙_, subst}
-use mathlib.Core.Bool.{Bool, true, false}
-use mathlib.Core.Logic.{_⊎_, inl, inr, ⊎-elim}
+use mathlib.Core.Logic.{⊎-elim}
 use mathlib.Core.List.{List, [], _∷_, _++_}
 use native.Mathlib.Omega.{arith}
-use borrow.Author.Tests.{leb-true, eqb-true, eqb-false, ne-eqb}
-use lib.Dec.{leb, eqb, lit<, lit≤}
+use borrow.Author.Tests.{leb-true, ne-eqb}
+use lib.Dec.{leb, lit<, lit≤}
 use lib.ListN.{length, getD}
-use Rattle.bcd.specs.Outcome.{Outcome, accepted, pick, each, All, Octets}
+use Rattle.bcd.specs.Outcome.{accepted, each, All, Octets}
 use Rattle.bcd.specs.Digits.{Alphabet, Lawful}
 use Rattle.bcd.proofs.Outcomes.{accepted-inj, mapped-inv, demand-inv, each-cons, each-inv, octets-at}
+use Rattle.bcd.proofs.Tests.{chosen}
 use Rattle.parameter.specs.Parameter.{Param, paddedLength, runLength, Fits, twoAt, four, fourIn}
 use Rattle.address.specs.Address.{Title, titleIn, writeTitle, Piece, title, code, sub, other, fourOctets, pieceIn, subParam}
 use Rattle.address.specs.Lengths.{pieceLength, totalLength}
@@ -29,17 +29,6 @@ pub record OnePiece (A : Alphabet) (p : Param) (xs : List Piece) : Type 0 where
   pub is : PieceOf A p piece
   pub alone : piece ∷ [] ≡ xs
 
--- A choice by the tag: the tag is that one, or it is not.
-tagged :
-    {X : Type 0} {x : X} (tag t : ℕ) (o q : Outcome X)
-    → pick (eqb tag t) o q ≡ accepted x
-    → ((tag ≡ t) × (o ≡ accepted x)) ⊎ ((tag ≡ t → ⊥) × (q ≡ accepted x))
-tagged {X} {x} tag t o q = go (eqb tag t) refl
-  where
-    go : (b : Bool) → eqb tag t ≡ b → pick b o q ≡ accepted x → ((tag ≡ t) × (o ≡ accepted x)) ⊎ ((tag ≡ t → ⊥) × (q ≡ accepted x))
-    go true h e = inl (eqb-true tag t h, e)
-    go false h e = inr (eqb-false tag t h, e)
-
 pub piece-inv : (A : Alphabet) (p : Param) (xs : List Piece) → pieceIn A p ≡ accepted xs → OnePiece A p xs
 unfolding pieceIn
 piece-inv A p xs e =
@@ -52,9 +41,9 @@ piece-inv A p xs e =
     (λ (m, e). ⊎-elim
     (λ (t, e). four-inv _ (isSub t) e)
     (λ (k, e). record { piece = other p; is = isOther n m k; alone = accepted-inj e })
-    (tagged (p .tag) 0x8003 _ _ e))
-    (tagged (p .tag) 0x8002 _ _ e))
-    (tagged (p .tag) 0x8001 _ _ e)
+    (chosen (p .tag) 0x8003 _ _ e))
+    (chosen (p .tag) 0x8002 _ _ e))
+    (chosen (p .tag) 0x8001 _ _ e)
   where
     four-inv : (x : Piece) → (4 ≤ length (p .value) → PieceOf A p x) → fourOctets p x ≡ accepted xs → OnePiece A p xs
     four-inv x is e =

@@ -1,16 +1,16 @@
--- What tests that pass say: two of them, one of every element of a list, and one of a number among others.
+-- What tests say: two that pass, one of every element of a list, one of a number among others, and one that a choice goes by.
 use Prim.Native.Nat.{ℕ, zero, suc, _+_, _≤_, _<_}
 use mathlib.Core.Path.{_≡_, refl, sym, ap}
 use mathlib.Core.Bool.{Bool, true, false, _&&_, _||_, or-true, or-false, or-assoc}
-use mathlib.Core.Logic.{_↔_}
+use mathlib.Core.Logic.{_↔_, _⊎_, inl, inr}
 use mathlib.Core.List.{List, [], _∷_, _++_}
 use native.Mathlib.Omega.{arith}
 use native.Mathlib.Numerals.{add-one}
 use lib.Dec.{leb, ltb, eqb}
 use lib.ListN.{length, getD, take}
 use lib.Seq.{take-suc}
-use borrow.Author.Tests.{eq-eqb, eqb-true, lt-ltb, ltb-true, le-leb, leb-true}
-use Rattle.bcd.specs.Outcome.{All, every, among}
+use borrow.Author.Tests.{eq-eqb, eqb-true, eqb-false, lt-ltb, ltb-true, le-leb, leb-true}
+use Rattle.bcd.specs.Outcome.{Outcome, accepted, pick, All, every, among}
 use Rattle.bcd.proofs.Below.{both}
 
 -- Two tests that tell the same.
@@ -76,3 +76,14 @@ among-from n (m ∷ ms) (suc k) h e = rw (among-from n ms k (omega arith) e) (or
 
 pub among-iff : (n : ℕ) (ms : List ℕ) → (among n ms ≡ true) ↔ ((k : ℕ) × (k < length ms) × (getD ms k 0 ≡ n))
 among-iff n ms = (among-to n ms, (λ (k, h, e). among-from n ms k h e))
+
+-- A choice by a number: the number is that one, or it is not.
+pub chosen :
+    {X : Type 0} {x : X} (n k : ℕ) (o q : Outcome X)
+    → pick (eqb n k) o q ≡ accepted x
+    → ((n ≡ k) × (o ≡ accepted x)) ⊎ ((n ≡ k → ⊥) × (q ≡ accepted x))
+chosen {X} {x} n k o q = go (eqb n k) refl
+  where
+    go : (b : Bool) → eqb n k ≡ b → pick b o q ≡ accepted x → ((n ≡ k) × (o ≡ accepted x)) ⊎ ((n ≡ k → ⊥) × (q ≡ accepted x))
+    go true h e = inl (eqb-true n k h, e)
+    go false h e = inr (eqb-false n k h, e)

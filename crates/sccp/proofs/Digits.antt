@@ -1,18 +1,19 @@
 -- The digits of a party address: read ones are written as the octets that they stood in, and written ones are read back.
 use Prim.Native.Nat.{ℕ, zero, suc, _+_, _-_, _*_, _/_, _%_, _≤_, _<_}
 use mathlib.Core.Path.{_≡_, refl, sym, ap, _∙_, subst}
-use mathlib.Core.Bool.{Bool, true, false, _&&_}
-use mathlib.Core.Logic.{_⊎_, inl, inr, ⊎-elim}
+use mathlib.Core.Bool.{true, _&&_}
+use mathlib.Core.Logic.{⊎-elim}
 use mathlib.Core.List.{List, [], _∷_, _++_}
 use native.Mathlib.Omega.{arith}
-use borrow.Author.Tests.{le-leb, leb-true, eqb-true, eqb-false}
+use borrow.Author.Tests.{le-leb, leb-true, eqb-true}
 use lib.Dec.{leb, eqb}
 use lib.ListN.{length, getD, take, length-take}
 use lib.Seq.{getD-append-add}
-use Rattle.bcd.specs.Outcome.{Outcome, accepted, pick, Octets}
+use Rattle.bcd.specs.Outcome.{accepted, Octets}
 use Rattle.bcd.specs.Digits.{halves, pack, builtIn, digitsIn, writeDigits}
 use Rattle.bcd.proofs.Outcomes.{accepted-inj, never, after-inv, demand-inv, all-take}
 use Rattle.bcd.proofs.Below.{both}
+use Rattle.bcd.proofs.Tests.{chosen}
 use Rattle.bcd.proofs.Halves.{halves-length, halves-nibbles, halves-pack, filler}
 use Rattle.bcd.proofs.Characters.{builtIn-lawful}
 use Rattle.bcd.proofs.Reading.{digits-length}
@@ -21,17 +22,6 @@ use Rattle.bcd.proofs.Digits.{read-at-most, read-written-read}
 use Rattle.address.proofs.Titles.{digit-octets}
 use Rattle.sccp.specs.Sccp.{known, digitCount, digitsOf}
 use Rattle.sccp.proofs.Known.{known-written, written-known}
-
--- A choice by a number: the number is that one, or it is not.
-pub chosen :
-    {X : Type 0} {x : X} (n k : ℕ) (o q : Outcome X)
-    → pick (eqb n k) o q ≡ accepted x
-    → ((n ≡ k) × (o ≡ accepted x)) ⊎ ((n ≡ k → ⊥) × (q ≡ accepted x))
-chosen {X} {x} n k o q = go (eqb n k) refl
-  where
-    go : (b : Bool) → eqb n k ≡ b → pick b o q ≡ accepted x → ((n ≡ k) × (o ≡ accepted x)) ⊎ ((n ≡ k → ⊥) × (q ≡ accepted x))
-    go true h e = inl (eqb-true n k h, e)
-    go false h e = inr (eqb-false n k h, e)
 
 -- The number of digits tells the encoding scheme and the number of octets, and is told by them.
 pub record Counted (scheme n count : ℕ) : Type 0 where

@@ -14,6 +14,7 @@ use Rattle.bcd.specs.Outcome.{accepted, pick, Octets}
 use Rattle.bcd.specs.Digits.{builtIn, digitsIn, writeDigits}
 use Rattle.bcd.proofs.Outcomes.{accepted-inj, never, mapped-inv, demand-inv}
 use Rattle.bcd.proofs.Below.{both}
+use Rattle.bcd.proofs.Tests.{chosen}
 use Rattle.bcd.proofs.Characters.{builtIn-lawful}
 use Rattle.bcd.proofs.Digits.{read-at-most}
 use Rattle.address.specs.Address.{Title}
@@ -21,7 +22,7 @@ use Rattle.address.proofs.Titles.{digit-octets}
 use Rattle.sccp.specs.Sccp.{there, codeIn, subIn, digitsOf, titleIn, nothingLeft, titleBy, absentOr, titleConverts, codeOctets, subOctets, titleOctets}
 use Rattle.sccp.specs.Facts.{TitleConverts}
 use Rattle.sccp.proofs.Known.{known-digits}
-use Rattle.sccp.proofs.Digits.{chosen, digits-inv, digits-back, digits-read-back}
+use Rattle.sccp.proofs.Digits.{digits-inv, digits-back, digits-read-back}
 
 -- A point code of 14 bits.
 abbrev pub codeSmall : ℕ → Bool

@@ -39,7 +39,8 @@ pub record Exactly (v : List ℕ) (a : Address) : Type 0 where
   pub held : (xs : List ℕ) → toSccp v ≡ accepted xs → Converts a
   pub elsewhere : (Converts a → ⊥) → toSccp v ≡ refused 17 []
 
--- Which octets of SCCP convert (`party-exactly`). Digits: BCD odd with octets, or BCD even; at most 255; no filler half but 0; no ?.
+-- Which octets of SCCP convert (`party-exactly`). Digits (Q.713, 3.4.2.3.1, the scheme 3.4.2.3.4): BCD odd with octets, or BCD
+-- even; at most 255; no filler half but 0; no ?.
 pub record DigitsConvert (scheme : ℕ) (xs : List ℕ) : Type 0 where
   pub count : ℕ
   pub by : ((scheme ≡ 1) × (1 ≤ length xs) × (count ≡ 2 * length xs - 1)) ⊎ ((scheme ≡ 2) × (count ≡ 2 * length xs))
@@ -47,7 +48,7 @@ pub record DigitsConvert (scheme : ℕ) (xs : List ℕ) : Type 0 where
   pub filler : getD (halves xs) count 0 ≡ 0
   pub digits : KnownDigits (digitsIn builtIn xs count)
 
--- A title of indicator 4 does not end early, and the reserved bit of its nature is 0.
+-- A title of indicator 4 does not end early, and the reserved bit of its nature is 0 (Q.713, 3.4.2.3.4).
 pub record TitlePartConverts (xs : List ℕ) : Type 0 where
   pub whole : 3 ≤ length xs
   pub nature : getD xs 2 0 ≤ 127
@@ -57,7 +58,8 @@ pub record TitlePartConverts (xs : List ℕ) : Type 0 where
 abbrev pub titleStart : (indicator : ℕ) → ℕ
 titleStart i = 1 + pick (bit 1 i) 2 0 + pick (bit 2 i) 1 0
 
--- A party address does not end early, its reserved bits are 0, and it has a title of indicator 4, or none and no octets left over.
+-- A party address does not end early, its reserved bits are 0, and it has a title of indicator 4, or none and no octets left over
+-- (Q.713, 3.4.1 and 3.4.2).
 pub record PartyConverts (xs : List ℕ) : Type 0 where
   pub some : 1 ≤ length xs
   pub reserved : getD xs 0 0 ≤ 127

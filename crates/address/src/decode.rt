@@ -20,7 +20,7 @@ use bcd::error::Refusal;
 use parameter::{Cursor, Number, Place, Step, be16};
 
 // An address that was read; all zeros where it was refused.
-#[derive(Drop)]
+#[derive(Clone, Copy)]
 pub struct AddressRead {
     pub verdict: Verdict,
     pub address: SuaAddress,

@@ -15,7 +15,7 @@ use bcd::error::{Counted, Refusal};
 use parameter::{be16, tags};
 
 // The parts of an address value, and how many octets it is written as; or why it is refused.
-#[derive(Drop)]
+#[derive(Clone, Copy)]
 pub(crate) enum Planned {
     Plan(Parts, usize),
     Refused(Refusal),

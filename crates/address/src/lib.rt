@@ -1,4 +1,6 @@
 // SUA addresses: routing indicator, global title, point code, subsystem number (address.rs; RFC 3868, 3.10.2).
+#![tactic(auto)]
+
 pub mod decode;
 pub mod encode;
 pub mod interpret;
@@ -14,7 +16,7 @@ ghost use Rattle.address.specs.Records.{routing_value, routing_of, address_of, t
 use bcd::error::Refusal;
 
 // How an address is routed (RFC 3868, 3.10.2.1).
-#[derive(Drop)]
+#[derive(Clone, Copy)]
 pub enum RoutingIndicator {
     Reserved,
     RouteOnGlobalTitle,
@@ -24,7 +26,7 @@ pub enum RoutingIndicator {
 }
 
 // A routing indicator, or why it is none.
-#[derive(Drop)]
+#[derive(Clone, Copy)]
 pub enum Routing {
     Indicator(RoutingIndicator),
     Refused(Refusal),
@@ -60,7 +62,7 @@ impl RoutingIndicator {
 }
 
 // A global title: the first `count` of `digits` are its digits (RFC 3868, 3.10.2.3).
-#[derive(Drop)]
+#[derive(Clone, Copy)]
 pub struct GlobalTitle {
     pub gti: u8,
     pub translation_type: u8,
@@ -105,7 +107,7 @@ impl GlobalTitle {
 
 // An address. Title, point code and SSN are there where their flags say so, apart from the include bits of the address
 // indicator; the other sub-parameters are the first `other_count` records of a lent table (RFC 3868, 3.10.2).
-#[derive(Drop)]
+#[derive(Clone, Copy)]
 pub struct SuaAddress {
     pub routing_indicator: RoutingIndicator,
     pub include_gt: bool,

@@ -9,14 +9,14 @@ use parameter::{Cursor, Place, Step, tags};
 
 // Where the value of a sub-parameter that the walk keeps starts, and how long it is. There is none where the start is 0, since
 // four octets stand before the first sub-parameter.
-#[derive(Drop)]
+#[derive(Clone, Copy)]
 pub struct Kept {
     pub start: usize,
     pub length: usize,
 }
 
 // The tag of a sub-parameter that is too short, and how long its value is. There is none where the tag is 0.
-#[derive(Drop)]
+#[derive(Clone, Copy)]
 pub struct Short {
     pub tag: u16,
     pub length: usize,
@@ -24,7 +24,7 @@ pub struct Short {
 
 // The first sub-parameter that is too short for its tag; the last title, point code and SSN; and of the others, how many
 // there are and what they take on the wire.
-#[derive(Drop)]
+#[derive(Clone, Copy)]
 pub struct Parts {
     pub short: Short,
     pub title: Kept,
@@ -35,7 +35,7 @@ pub struct Parts {
 }
 
 // What the walk gives, or why it cannot go on.
-#[derive(Drop)]
+#[derive(Clone, Copy)]
 pub enum Surveyed {
     Parts(Parts),
     Refused(Refusal),

@@ -11,14 +11,14 @@ use crate::GlobalTitle;
 use bcd::error::{Counted, Refusal};
 
 // Whether a value was read, or why not.
-#[derive(Drop)]
+#[derive(Clone, Copy)]
 pub enum Verdict {
     Done,
     Refused(Refusal),
 }
 
 // A title that was read; all zeros where it was refused.
-#[derive(Drop)]
+#[derive(Clone, Copy)]
 pub struct TitleRead {
     pub verdict: Verdict,
     pub title: GlobalTitle,
@@ -83,7 +83,7 @@ pub(crate) fn write_value(
                 numbering_plan,
                 nature_of_address,
             ];
-            bytes::copy(&head, out);
+            octets::copy(&head, out);
             Counted::Count(length)
         }
     }

@@ -1,7 +1,7 @@
 // Why a call refuses, and the answer that holds it. Documents 01 and 02 number the refusals in this order, from 1; the first
 // nine are those of error.rs.
 
-#[derive(Drop)]
+#[derive(Clone, Copy)]
 pub enum Refusal {
     // The octets are fewer than an item of this kind has at least.
     TooShort {
@@ -58,7 +58,7 @@ pub enum Refusal {
 }
 
 // How many octets were written, or records stored; or why none were.
-#[derive(Drop)]
+#[derive(Clone, Copy)]
 pub enum Counted {
     Count(usize),
     Refused(Refusal),

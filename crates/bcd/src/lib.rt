@@ -1,4 +1,6 @@
 // The digits of a global title: two to an octet, the first in the low half (bcd.rs; RFC 3868, 3.10.2.3).
+#![tactic(auto)]
+
 pub mod error;
 pub mod rewrite;
 
@@ -12,7 +14,7 @@ use error::{Counted, Refusal};
 
 // What reading digits answers: how many there are, or why none were read; and the digits in front of zeros, or zeros
 // alone.
-#[derive(Drop)]
+#[derive(Clone, Copy)]
 pub struct GtDigits {
     pub answer: Counted,
     pub digits: [u8; 255],
@@ -127,7 +129,7 @@ pub fn encode_gt_digits(digits: &[u8], out: &mut [u8]) -> Counted
             if out.len() < n {
                 return Counted::Refused(Refusal::OutputTooSmall(n));
             }
-            bytes::copy(&packed[..n], out);
+            octets::copy(&packed[..n], out);
             Counted::Count(n)
         }
     }

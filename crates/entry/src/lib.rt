@@ -1,4 +1,6 @@
 // The entries for other languages, on slices of octets and numbers (include/sua.h).
+#![tactic(auto)]
+
 ghost use Rattle.std.specs.Prelude.{◌≡◌};
 ghost use Rattle.bcd.specs.Outcome.{deliver};
 ghost use Rattle.bcd.specs.Digits.{built_in};
@@ -20,8 +22,7 @@ use tally::tally;
 
 // Writes the settled form of a message. Reading's refusals, then each address's, 9, 10 in wire order, then 14. The report is
 // written by every call, refused or not, here and below.
-#[unsafe(no_mangle)]
-pub extern "C" fn sua_settle(input: &[u8], out: &mut [u8], report: &mut [u64]) -> u64
+pub fn sua_settle(input: &[u8], out: &mut [u8], report: &mut [u64]) -> u64
     ensures { entered result out.new report.new
         ≡ enter (deliver (settled built_in input.now) out.old) report.old }
 {
@@ -30,8 +31,7 @@ pub extern "C" fn sua_settle(input: &[u8], out: &mut [u8], report: &mut [u64]) -
 
 // Writes a flat account of a message with its addresses, of at most 2,621,426 octets. Reading's refusals, then each
 // address's in wire order, then 14.
-#[unsafe(no_mangle)]
-pub extern "C" fn sua_read(input: &[u8], out: &mut [u8], report: &mut [u64]) -> u64
+pub fn sua_read(input: &[u8], out: &mut [u8], report: &mut [u64]) -> u64
     ensures { entered result out.new report.new
         ≡ enter (deliver (account built_in input.now) out.old) report.old }
 {
@@ -40,8 +40,7 @@ pub extern "C" fn sua_read(input: &[u8], out: &mut [u8], report: &mut [u64]) -> 
 
 // Writes the message of a class, a type and a flat list of parameters. 4, 15, 10 in order, 12, 14. 12 is the message's; the
 // list has no bound of its own.
-#[unsafe(no_mangle)]
-pub extern "C" fn sua_encode(
+pub fn sua_encode(
     class: u8,
     msg_type: u8,
     list: &[u8],
@@ -55,8 +54,7 @@ pub extern "C" fn sua_encode(
 }
 
 // Tallies one message under a member list, and reports the row that gained. 16, before the message is read.
-#[unsafe(no_mangle)]
-pub extern "C" fn sua_tally(
+pub fn sua_tally(
     digits: &[u8],
     lengths: &[u8],
     input: &[u8],
@@ -72,8 +70,7 @@ pub extern "C" fn sua_tally(
 }
 
 // Writes the SCCP party address of an address value. The value's reading's refusals, then 17, then 14.
-#[unsafe(no_mangle)]
-pub extern "C" fn sua_to_sccp(value: &[u8], out: &mut [u8], report: &mut [u64]) -> u64
+pub fn sua_to_sccp(value: &[u8], out: &mut [u8], report: &mut [u64]) -> u64
     ensures { entered result out.new report.new
         ≡ enter (deliver (to_sccp value.now) out.old) report.old }
 {
@@ -81,8 +78,7 @@ pub extern "C" fn sua_to_sccp(value: &[u8], out: &mut [u8], report: &mut [u64]) 
 }
 
 // Writes the address value of an SCCP party address. 12, 18, 14.
-#[unsafe(no_mangle)]
-pub extern "C" fn sua_from_sccp(octets: &[u8], out: &mut [u8], report: &mut [u64]) -> u64
+pub fn sua_from_sccp(octets: &[u8], out: &mut [u8], report: &mut [u64]) -> u64
     ensures { entered result out.new report.new
         ≡ enter (deliver (from_sccp octets.now) out.old) report.old }
 {

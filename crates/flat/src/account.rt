@@ -25,7 +25,7 @@ use message::header::{CommonHeader, HeaderRead};
 use parameter::{Cursor, Place, Step, be16};
 
 // Where the account of the parameters ends, or why it is refused; and how many parameters there are.
-#[derive(Drop)]
+#[derive(Clone, Copy)]
 struct Accounts {
     end: Counted,
     count: usize,

@@ -104,9 +104,9 @@ fn put_between(head: &[u8], n: usize, tail: &[u8], out: &mut [u8]) -> usize
     ensures value { result ≡ length (between head.now n tail.now) }
     ensures out_after { out.new ≡ over (between head.now n tail.now) out.old }
 {
-    let first = bytes::copy(head, out);
+    let first = octets::copy(head, out);
     let end = first + put_decimal(n, &mut out[first..]);
-    end + bytes::copy(tail, &mut out[end..])
+    end + octets::copy(tail, &mut out[end..])
 }
 
 // Stores a form's line at the front of a slice.
@@ -119,7 +119,7 @@ fn put_form(form: &[u8], n: usize, out: &mut [u8])
     let first = put_between(b"(form ", count, b" (", out);
     put_words(form, &mut out[first..]);
     let last = n - 3;
-    bytes::copy(b"))\n", &mut out[last..]);
+    octets::copy(b"))\n", &mut out[last..]);
 }
 
 // Writes a form's line. 12 above 1,048,576 octets of the form, then 14; the line has at most 2,359,313 characters.

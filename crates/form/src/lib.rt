@@ -1,4 +1,6 @@
 // The settled form of a message: octets that depend on its meaning and on nothing else.
+#![tactic(auto)]
+
 ghost use Rattle.std.specs.Prelude.{◌≡◌, ℕ, ◌+◌, ◌*◌, ◌≤◌, List};
 ghost use lib.ListN.{length};
 ghost use Rattle.bcd.specs.Outcome.{Outcome, accepted, after, mapped, most, delivered, deliver};

@@ -11,7 +11,7 @@ use parameter::table::{Found, find_parameter};
 use parameter::tags::ROUTING_CONTEXT;
 
 // Whether the routing contexts of a message are all in a set.
-#[derive(Drop)]
+#[derive(Clone, Copy)]
 pub enum Membership {
     Yes,
     No,

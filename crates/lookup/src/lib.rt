@@ -1,5 +1,7 @@
 // The first parameter with a tag, read: what the accessors of a message are made of (message.rs; RFC 3868, 3.9 and 3.10).
 // 15 first, if any record meets it.
+#![tactic(auto)]
+
 pub mod contexts;
 mod pass;
 pub mod screen;
@@ -24,7 +26,7 @@ use parameter::Number;
 use parameter::table::{Found, find_parameter};
 
 // An octet; none where the parameter is absent or has under four octets.
-#[derive(Drop)]
+#[derive(Clone, Copy)]
 pub enum Octet {
     Value(u8),
     None,
@@ -32,14 +34,14 @@ pub enum Octet {
 }
 
 // The type and the value of an SCCP cause.
-#[derive(Drop)]
+#[derive(Clone, Copy)]
 pub struct SccpCause {
     pub cause_type: u8,
     pub cause_value: u8,
 }
 
 // An SCCP cause; none where the parameter is absent or has under four octets.
-#[derive(Drop)]
+#[derive(Clone, Copy)]
 pub enum Cause {
     Value(SccpCause),
     None,

@@ -10,7 +10,7 @@ use parameter::Number;
 use parameter::tags::{DESTINATION_ADDRESS, SOURCE_ADDRESS};
 
 // The handling fields, each what its own accessor answers.
-#[derive(Drop)]
+#[derive(Clone, Copy)]
 pub struct Screen {
     pub routing_context: Number,
     pub protocol_class: Octet,

@@ -12,7 +12,7 @@ use bcd::error::{Counted, Refusal};
 pub const VERSION: u8 = 1;
 
 // The common header (RFC 3868, 3.1).
-#[derive(Drop)]
+#[derive(Clone, Copy)]
 pub struct CommonHeader {
     pub version: u8,
     pub message_type: MessageType,
@@ -20,7 +20,7 @@ pub struct CommonHeader {
 }
 
 // A header that was read, or a refusal.
-#[derive(Drop)]
+#[derive(Clone, Copy)]
 pub enum HeaderRead {
     Header(CommonHeader),
     Refused(Refusal),

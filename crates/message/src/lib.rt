@@ -1,4 +1,6 @@
 // Messages, read and written (message.rs; RFC 3868, 3.1).
+#![tactic(auto)]
+
 pub mod accessors;
 pub mod constructors;
 pub mod header;
@@ -17,14 +19,14 @@ pub use pieces::point_codes;
 use types::MessageType;
 
 // A message's type and the number of its parameters: the first records of a lent table.
-#[derive(Drop)]
+#[derive(Clone, Copy)]
 pub struct SuaMessage {
     pub message_type: MessageType,
     pub count: usize,
 }
 
 // A message that was read, or a refusal.
-#[derive(Drop)]
+#[derive(Clone, Copy)]
 pub enum MessageRead {
     Message(SuaMessage),
     Refused(Refusal),

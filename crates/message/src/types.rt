@@ -6,7 +6,7 @@ ghost use Rattle.message.specs.Types.{from_octet, from_class_type, class_and_typ
 use bcd::error::Refusal;
 
 // The classes of messages (RFC 3868, 3.1.2).
-#[derive(Drop)]
+#[derive(Clone, Copy)]
 pub enum MessageClass {
     Management = 0,
     Snm = 2,
@@ -18,14 +18,14 @@ pub enum MessageClass {
 }
 
 // The class of an octet, or refusal 3.
-#[derive(Drop)]
+#[derive(Clone, Copy)]
 pub enum ClassRead {
     Class(MessageClass),
     Refused(Refusal),
 }
 
 // The types of messages, class by class (RFC 3868, 3.1.3).
-#[derive(Drop)]
+#[derive(Clone, Copy)]
 pub enum MessageType {
     Error,
     Notify,
@@ -65,14 +65,14 @@ pub enum MessageType {
 }
 
 // The type of a pair of octets, or refusal 4.
-#[derive(Drop)]
+#[derive(Clone, Copy)]
 pub enum TypeRead {
     Type(MessageType),
     Refused(Refusal),
 }
 
 // A message type's octets in the header: its class and its type.
-#[derive(Drop)]
+#[derive(Clone, Copy)]
 pub struct ClassAndType(pub u8, pub u8);
 
 impl MessageClass {

@@ -1,4 +1,6 @@
 // One parameter, and the cursor that walks a run of them (parameter.rs; RFC 3868, 3.1.5).
+#![tactic(auto)]
+
 pub mod table;
 pub mod tags;
 
@@ -14,7 +16,7 @@ ghost use Rattle.parameter.specs.Answers.{step_of, one_of, number_of};
 use bcd::error::{Counted, Refusal};
 
 // A parameter's tag, and where its value starts and how long it is in the octets given.
-#[derive(Drop)]
+#[derive(Clone, Copy)]
 pub struct Place {
     pub tag: u16,
     pub start: usize,
@@ -22,13 +24,13 @@ pub struct Place {
 }
 
 // A position in a run of parameters.
-#[derive(Drop)]
+#[derive(Clone, Copy)]
 pub struct Cursor {
     pub at: usize,
 }
 
 // What a step of the cursor finds: a parameter with the cursor moved on, the end of the run, or a refusal.
-#[derive(Drop)]
+#[derive(Clone, Copy)]
 pub enum Step {
     Parameter(Place, Cursor),
     End,
@@ -36,14 +38,14 @@ pub enum Step {
 }
 
 // One parameter read: its place, and how many octets it took.
-#[derive(Drop)]
+#[derive(Clone, Copy)]
 pub enum One {
     Parameter(Place, usize),
     Refused(Refusal),
 }
 
 // A value read as a number; none under four octets.
-#[derive(Drop)]
+#[derive(Clone, Copy)]
 pub enum Number {
     Value(u32),
     None,
@@ -202,7 +204,7 @@ pub(crate) fn put(tag: u16, value: &[u8], out: &mut [u8])
     ensures { out.new
         ≡ param_octets (param tag value.now) ++ drop (padded_length (length value.now)) out.old }
 {
-    bytes::copy(value, &mut out[4..]);
+    octets::copy(value, &mut out[4..]);
     surround(tag, value.len(), out);
 }
 

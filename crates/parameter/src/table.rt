@@ -12,7 +12,7 @@ use crate::{Cursor, Place, Step, put, saturating_add};
 use bcd::error::{Counted, Refusal};
 
 // A parameter looked for by its tag.
-#[derive(Drop)]
+#[derive(Clone, Copy)]
 pub enum Found {
     At(Place),
     None,

@@ -1,4 +1,6 @@
 // The parts that constructors make messages of (message.rs; RFC 3868, 3.2 to 3.7).
+#![tactic(auto)]
+
 pub mod point_codes;
 
 ghost use Rattle.std.specs.Prelude.{◌≡◌, [], ◌∷◌, length};
@@ -18,7 +20,7 @@ use point_codes::pack_affected_point_codes;
 
 // A part of a message: nothing; a tag and a number, if given; a tag for the octets lent beside it, if given; or the point
 // codes lent beside it.
-#[derive(Drop)]
+#[derive(Clone, Copy)]
 pub enum Part {
     Absent,
     Number(bool, u16, u32),

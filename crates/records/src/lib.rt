@@ -1,4 +1,6 @@
 // The parameter list as a lent slice of records (document 01, 'Rust forms that cannot stay').
+#![tactic(auto)]
+
 pub mod reader;
 
 ghost use Rattle.std.specs.Prelude.{◌≡◌, ◌≤◌, length};
@@ -17,21 +19,21 @@ use parameter::table::count;
 use parameter::{Cursor, Place, Step};
 
 // A parameter's record, and where the next parameter starts.
-#[derive(Drop)]
+#[derive(Clone, Copy)]
 struct Row {
     place: Place,
     next: usize,
 }
 
 // What reading into a slice of records answers, and how many records it stores.
-#[derive(Drop)]
+#[derive(Clone, Copy)]
 struct Plan {
     answer: Counted,
     count: usize,
 }
 
 // The same of a message.
-#[derive(Drop)]
+#[derive(Clone, Copy)]
 struct MessagePlan {
     answer: MessageRead,
     count: usize,

@@ -10,35 +10,35 @@ use message::header::{CommonHeader, HeaderRead};
 use parameter::{Cursor, Step};
 
 // A message's octets, and the position of the next parameter.
-#[derive(Drop)]
+#[derive(Clone, Copy)]
 pub struct Reader<'a> {
     pub bytes: &'a [u8],
     pub at: usize,
 }
 
 // The header that was read, or its refusal, and the reader of the parameters.
-#[derive(Drop)]
+#[derive(Clone, Copy)]
 pub struct Opened<'a> {
     pub header: HeaderRead,
     pub reader: Reader<'a>,
 }
 
 // What a reader finds, and the reader moved on.
-#[derive(Drop)]
+#[derive(Clone, Copy)]
 pub struct Next<'a> {
     pub step: Step,
     pub reader: Reader<'a>,
 }
 
 // The header that was read, or its refusal, and where the parameters start.
-#[derive(Drop)]
+#[derive(Clone, Copy)]
 struct Start {
     header: HeaderRead,
     at: usize,
 }
 
 // What stands at a position, and where the reader goes on.
-#[derive(Drop)]
+#[derive(Clone, Copy)]
 struct Forward {
     step: Step,
     at: usize,

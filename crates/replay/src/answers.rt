@@ -4,7 +4,7 @@ use message::accessors::{Cause, Membership, Octet};
 use parameter::table::Found;
 use parameter::{Number, Place};
 
-#[derive(Drop)]
+#[derive(Clone, Copy)]
 pub(crate) enum Word {
     Nothing,
     Ok,
@@ -17,7 +17,7 @@ pub(crate) enum Word {
 }
 
 // The first `count` of the list are the numbers.
-#[derive(Drop)]
+#[derive(Clone, Copy)]
 pub(crate) struct Answer {
     pub(crate) word: Word,
     pub(crate) count: usize,

@@ -1,4 +1,6 @@
 // The calls of the codec's functions on standard input, one on a line, each answered by one line.
+#![tactic(auto)]
+
 mod answers;
 mod buffers;
 mod cld;
@@ -15,10 +17,13 @@ ghost use Rattle.std.specs.Prelude.{◌≤◌, length};
 
 use answers::{Answer, Word, bare, counted};
 use bcd::smaller;
-use bytes::scan::find;
-use libc::{STDIN_FILENO, STDOUT_FILENO};
+use octets::find;
 use print::answer_and_octets;
 use words::{lent_codes, one, place, string, table_at};
+
+// Standard input and standard output, as the system numbers them.
+const STDIN: i32 = 0;
+const STDOUT: i32 = 1;
 
 // Where the name of a call starts: a first word `beyond` is skipped.
 fn name_start(call: &[u8]) -> usize
@@ -323,7 +328,7 @@ fn answer(
 // Prints the first n characters of a line, and a line feed.
 fn print_line(n: usize, line: &mut [u8]) {
     let end = smaller(words::put_octet(b'\n', n, line), line.len());
-    io::write_all(STDOUT_FILENO, &line[0..end]);
+    io::write_all(STDOUT, &line[0..end]);
 }
 
 // Answers each line of the first n characters of a text.
@@ -357,7 +362,7 @@ fn run(
     codes: &mut [u32; 20000],
     line: &mut [u8; 200000],
 ) {
-    let n = io::read_full(STDIN_FILENO, text);
+    let n = io::read_full(STDIN, text);
     answer_all(text, n, numbers, octets, out, codes, line);
 }
 

@@ -2,11 +2,11 @@
 ghost use Rattle.std.specs.Prelude.{◌<◌, ◌≤◌, length};
 
 use bcd::smaller;
-use bytes::scan::find;
+use octets::find;
 use parameter::saturating_add;
 
 // How many numbers and octet strings a call has.
-#[derive(Drop)]
+#[derive(Clone, Copy)]
 struct Counts {
     numbers: usize,
     strings: usize,
@@ -368,7 +368,7 @@ pub(crate) fn codes_at(numbers: &[u64], at: usize, codes: &mut [u32]) -> usize
 }
 
 // How many tags, starts and lengths a table has, and the place behind it.
-#[derive(Drop)]
+#[derive(Clone, Copy)]
 pub(crate) struct Shape {
     pub(crate) tags: usize,
     pub(crate) starts: usize,

@@ -1,4 +1,6 @@
 // The report that every entry for another language fills: document 01's number of a refusal and its values, or a count.
+#![tactic(auto)]
+
 ghost use Rattle.std.specs.Prelude.{◌≡◌, min, get_or};
 ghost use Rattle.bcd.specs.Answers.{numbered, counted_of, refusal_of};
 ghost use Rattle.report.specs.Report.{numbers, reported};

@@ -3,14 +3,19 @@
 // accessors of the handling fields, 2: the screen, 0: nothing), a message of at most 8,191 octets and 1,000 parameters. Above 2
 // (3: digits written, 4: a title with them, 5: an address with that, else nothing), an octet for the length of the output, and
 // at most 255 digits.
+#![tactic(auto)]
+
 mod handling;
 mod sums;
 mod titles;
 
 use bcd::smaller;
-use libc::{STDIN_FILENO, STDOUT_FILENO};
 use message::{MessageRead, SuaMessage};
 use parameter::{Number, as_u32};
+
+// Standard input and standard output, as the system numbers them.
+const STDIN: i32 = 0;
+const STDOUT: i32 = 1;
 
 // A number that is there, or 0.
 fn there(number: Number) -> u32 {
@@ -57,8 +62,8 @@ fn main() {
     let mut tags = [0u16; 1001];
     let mut starts = [0usize; 1001];
     let mut lengths = [0usize; 1001];
-    io::read_full(STDIN_FILENO, &mut order);
-    let n = io::read_full(STDIN_FILENO, &mut octets);
+    io::read_full(STDIN, &mut order);
+    let n = io::read_full(STDIN, &mut octets);
     let rounds = there(as_u32(&order[1..5]));
     let work = order[0];
     let sum = if 2 < work {
@@ -74,6 +79,6 @@ fn main() {
             &mut lengths,
         )
     };
-    io::print_decimal(STDOUT_FILENO, sum);
-    io::write_all(STDOUT_FILENO, b"\n");
+    io::print_decimal(STDOUT, sum);
+    io::write_all(STDOUT, b"\n");
 }

@@ -130,7 +130,7 @@ pub(crate) fn rounds(work: u8, count: u32, n: usize, octets: &mut [u8]) -> u64 {
     }
     let room = wide(octets[0]);
     let mut digits = [0u8; 255];
-    bytes::copy(&octets[1..n], &mut digits);
+    octets::copy(&octets[1..n], &mut digits);
     let title = GlobalTitle::e164(digits, n - 1);
     let mut out = [0u8; 255];
     worked(work, count, n, octets, title, &mut out[..room])

@@ -9,7 +9,7 @@ ghost use Rattle.sccp.specs.Steps.{no_numbers};
 use bcd::error::{Counted, Refusal};
 
 // A title of indicator 4: its digits are the first `count` half octets from `start` on.
-#[derive(Drop)]
+#[derive(Clone, Copy)]
 pub(crate) struct Title {
     pub(crate) translation_type: u8,
     pub(crate) numbering_plan: u8,
@@ -19,7 +19,7 @@ pub(crate) struct Title {
 }
 
 // An address, routed on its title or on SSN and point code. Its parts are there where their flags say so, and zeros elsewhere.
-#[derive(Drop)]
+#[derive(Clone, Copy)]
 pub(crate) struct Common {
     pub(crate) on_title: bool,
     pub(crate) has_point_code: bool,
@@ -31,7 +31,7 @@ pub(crate) struct Common {
 }
 
 // An address that converts, or why there is none.
-#[derive(Drop)]
+#[derive(Clone, Copy)]
 pub(crate) enum Converted {
     Address(Common),
     Refused(Refusal),
@@ -86,7 +86,7 @@ pub(crate) fn copy_digits(octets: &[u8], count: usize, out: &mut [u8])
     ensures { out.new ≡ pack (take count (halves octets.now)) ++ drop ((count + 1) / 2) out.old }
 {
     let whole = count / 2;
-    bytes::copy(&octets[..whole], out);
+    octets::copy(&octets[..whole], out);
     if count % 2 == 1 {
         out[whole] = octets[whole] % 16;
     }

@@ -1,5 +1,7 @@
 // Addresses to and from SCCP: an address value of SUA and a party address of SCCP, each written from the octets of the other
 // (RFC 3868, 3.10.2; ITU-T Q.713, 3.4; document 02, CR 5).
+#![tactic(auto)]
+
 pub mod common;
 pub mod party;
 pub mod value;

@@ -209,7 +209,7 @@ fn put_title(there: bool, title: Title, octets: &[u8], out: &mut [u8])
             title.numbering_plan,
             title.nature_of_address,
         ];
-        bytes::copy(&head, &mut out[4..]);
+        octets::copy(&head, &mut out[4..]);
         copy_digits(&octets[start..], count, &mut out[12..]);
         parameter::frame(tags::GLOBAL_TITLE, 8 + (count + 1) / 2, out);
     }

@@ -1,4 +1,6 @@
 // The day tally by member: each message adds itself and its data's octets to one row (document 02, CR 1).
+#![tactic(auto)]
+
 pub mod longest;
 pub mod members;
 pub mod place;

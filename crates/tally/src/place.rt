@@ -18,7 +18,7 @@ use parameter::table::Found;
 use parameter::{Cursor, Step, tags};
 
 // A row, and the octets that it gains beside one message.
-#[derive(Drop)]
+#[derive(Clone, Copy)]
 pub struct Gain {
     pub row: usize,
     pub octets: usize,

@@ -1,0 +1,64 @@
+-- `address::decode::list_others` meets its contract: the loop has stored the others among the first n.
+use borrow.Author.Rules.{rules}
+use Prim.Native.Nat.{◌-◌}
+use mathlib.Core.Path.{◌≡◌, sym, ap, ◌∙◌}
+use native.Mathlib.Omega.{arith}
+use lib.ListN.{length}
+use Rattle.bcd.proofs.Outcomes.{never, bounded-within}
+use Rattle.parameter.specs.Walk.{step_at}
+use Rattle.parameter.specs.Answers.{step_of}
+use Rattle.parameter.specs.declared.Step.{Step}
+use Rattle.parameter.proofs.Reaching.{reached_out, reached_end, reached_refused}
+use Rattle.address.specs.Steps.Plan.{HasRow}
+use Rattle.address.proofs.Tabling.{Turn, Tabling, tabling_start, tabling_turn, tabling_next, tabled}
+use Rattle.address.proofs.decode.list_others.Goals as goal
+
+pub loop-n-init : goal.loop-n-init
+loop-n-init c = tabling_start c.args.value.now c.args.tags.now c.args.starts.now c.args.lengths.now
+
+pub list_other-row-requires : goal.list_other-row-requires
+list_other-row-requires c =
+    let stepped : (s : Step) → c.step.result ≡ s → step_at c.args.value.now c.loop-n.c.at ≡ step_of s = λ s e. let xs = c.args.value.now in
+    let at = c.loop-n.c.at in
+    sym (bounded-within xs (step_at xs at) c.requires.read.known.within) ∙ sym c.step.ensures ∙ ap step_of e in
+    let turn : Turn c.args.parts c.in-Parameter.p c.loop-n.row = let v = c.p-1.given in
+    tabling_turn c.loop-n.invariant c.loop-n-test.true v.0.0 v.0.1.0.at (stepped _ v.1) c.requires.read.known in
+    let rows : HasRow c.in-Parameter.p c.loop-n.row c.args.tags.now × HasRow c.in-Parameter.p c.loop-n.row c.args.starts.now × HasRow c.in-Parameter.p c.loop-n.row c.args.lengths.now = let t = turn in
+    ((λ o. omega (arith, t.below o, c.requires.other_count_in_bounds)), (λ o. omega (arith, t.below o, c.requires.other_count_in_bounds_2)), (λ o. omega (arith, t.below o, c.requires.other_count_in_bounds_3))) in
+    let (a, b, d) = rows in
+    (turn.few, ((λ o. omega (arith, a o, c.loop-n.invariant.tags.same)), ((λ o. omega (arith, b o, c.loop-n.invariant.starts.same)), (λ o. omega (arith, d o, c.loop-n.invariant.lengths.same)))))
+
+pub loop-n-preserved : goal.loop-n-preserved
+loop-n-preserved c =
+    let stepped : (s : Step) → c.step.result ≡ s → step_at c.args.value.now c.loop-n.c.at ≡ step_of s = λ s e. let xs = c.args.value.now in
+    let at = c.loop-n.c.at in
+    sym (bounded-within xs (step_at xs at) c.requires.read.known.within) ∙ sym c.step.ensures ∙ ap step_of e in
+    let turn : Turn c.args.parts c.in-Parameter.p c.loop-n.row = let v = c.p-1.given in
+    tabling_turn c.loop-n.invariant c.loop-n-test.true v.0.0 v.0.1.0.at (stepped _ v.1) c.requires.read.known in
+    let rows : HasRow c.in-Parameter.p c.loop-n.row c.args.tags.now × HasRow c.in-Parameter.p c.loop-n.row c.args.starts.now × HasRow c.in-Parameter.p c.loop-n.row c.args.lengths.now = let t = turn in
+    ((λ o. omega (arith, t.below o, c.requires.other_count_in_bounds)), (λ o. omega (arith, t.below o, c.requires.other_count_in_bounds_2)), (λ o. omega (arith, t.below o, c.requires.other_count_in_bounds_3))) in
+    let v = c.p-1.given in
+    let (a, b, d) = rows in
+    let e = c.list_other-row.ensures in
+    tabling_next c.loop-n.invariant c.loop-n-test.true v.0.0 v.0.1.0.at (stepped _ v.1) _ _ _ _ a b d e.0 e.1.0 e.1.1.0 e.1.1.1
+
+pub returns-in-End : goal.returns-in-End
+returns-in-End c =
+    let stepped : (s : Step) → c.step.result ≡ s → step_at c.args.value.now c.loop-n.c.at ≡ step_of s = λ s e. let xs = c.args.value.now in
+    let at = c.loop-n.c.at in
+    sym (bounded-within xs (step_at xs at) c.requires.read.known.within) ∙ sym c.step.ensures ∙ ap step_of e in
+    let y = c.loop-n.invariant in
+    tabled c.requires.read y (reached_end y.reached c.loop-n-test.true (stepped _ c.in-End.is))
+
+pub returns-in-Refused : goal.returns-in-Refused
+returns-in-Refused c =
+    let stepped : (s : Step) → c.step.result ≡ s → step_at c.args.value.now c.loop-n.c.at ≡ step_of s = λ s e. let xs = c.args.value.now in
+    let at = c.loop-n.c.at in
+    sym (bounded-within xs (step_at xs at) c.requires.read.known.within) ∙ sym c.step.ensures ∙ ap step_of e in
+    let y = c.loop-n.invariant in
+    let none = reached_refused y.reached c.loop-n-test.true _ _ (stepped _ c.in-Refused.is) in
+    absurd (never (sym none ∙ c.requires.read.known.walked))
+
+pub returns : goal.returns
+returns c = let y = c.loop-n.invariant in
+    tabled c.requires.read y (reached_out y.reached c.loop-n-test.false)

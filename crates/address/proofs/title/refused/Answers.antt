@@ -1,0 +1,6 @@
+-- `address::title::refused` meets its contract.
+use borrow.Author.Rules.{rules}
+use Rattle.address.proofs.title.refused.Goals as goal
+
+pub returns : goal.returns
+returns c = rw c.new.ensures

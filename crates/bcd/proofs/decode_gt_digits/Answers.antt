@@ -1,0 +1,11 @@
+-- `bcd::decode_gt_digits` meets its contract.
+use Rattle.bcd.specs.Digits.{built_in}
+use Rattle.bcd.proofs.Reading.{reading_refused, reading_done}
+use borrow.Author.Rules.{rules}
+use Rattle.bcd.proofs.decode_gt_digits.Goals as goal
+
+pub returns-then-given-gt1048576 : goal.returns-then-given-gt1048576
+returns-then-given-gt1048576 c = reading_refused built_in c.args.bytes.now c.args.num_digits _ c.if-given-gt1048576.true
+
+pub returns : goal.returns
+returns c = reading_done built_in c.args.bytes.now c.args.num_digits c.smaller-n.result _ _ c.if-given-gt1048576.false c.smaller-n.ensures c.unpack_digits.ensures

@@ -1,0 +1,24 @@
+-- `bcd::rewrite::rewritten_digits_length` meets its contract.
+use borrow.Author.Rules.{rules}
+use mathlib.Core.Bool.{Bool}
+use mathlib.Core.Path.{sym, ap, ◌∙◌}
+use mathlib.Core.List.{[], ◌∷◌}
+use lib.ListN.{length, take}
+use Rattle.bcd.specs.Outcome.{accepted, refused, pick, mapped}
+use Rattle.bcd.specs.Digits.{halves, pack}
+use Rattle.bcd.proofs.Rewriting.{rewrite_beyond, rewrite_within, halves-packed}
+use Rattle.bcd.proofs.rewrite.rewritten_digits_length.Goals as goal
+
+pub returns-then-given-gt1048576 : goal.returns-then-given-gt1048576
+returns-then-given-gt1048576 c = sym (ap (mapped length) (rewrite_beyond c.args.bytes.now c.args.num_digits c.if-given-gt1048576.true))
+
+pub returns-then-unknown : goal.returns-then-unknown
+returns-then-unknown c = sym (ap (mapped length) (rewrite_within c.args.bytes.now c.args.num_digits c.smaller-n.result c.if-given-gt1048576.false c.smaller-n.ensures
+    ∙ c.unknown.ensures
+    ∙ ap (λ (r : Bool). pick r (refused 9 (0x3F ∷ [])) (accepted (pack (take c.smaller-n.result (halves c.args.bytes.now))))) c.if-unknown.true))
+
+pub returns : goal.returns
+returns c = ap accepted (sym (halves-packed c.args.bytes.now c.smaller-n.result (search rules)))
+    ∙ sym (ap (mapped length) (rewrite_within c.args.bytes.now c.args.num_digits c.smaller-n.result c.if-given-gt1048576.false c.smaller-n.ensures
+    ∙ c.unknown.ensures
+    ∙ ap (λ (r : Bool). pick r (refused 9 (0x3F ∷ [])) (accepted (pack (take c.smaller-n.result (halves c.args.bytes.now))))) c.if-unknown.false))

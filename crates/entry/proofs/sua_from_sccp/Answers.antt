@@ -1,0 +1,8 @@
+-- `entry::sua_from_sccp` meets its contract: the answer is stored in the report.
+use Rattle.bcd.specs.Answers.{counted_of}
+use Rattle.report.proofs.Reports.{entry_stored}
+use borrow.Author.Rules.{rules}
+use Rattle.entry.proofs.sua_from_sccp.Goals as goal
+
+pub returns : goal.returns
+returns c = entry_stored (counted_of c.from_sccp.result) _ c.args.report.now c.from_sccp.ensures c.store.ensures.value c.store.ensures.report_after

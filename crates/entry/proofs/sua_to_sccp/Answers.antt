@@ -1,0 +1,8 @@
+-- `entry::sua_to_sccp` meets its contract: the answer is stored in the report.
+use Rattle.bcd.specs.Answers.{counted_of}
+use Rattle.report.proofs.Reports.{entry_stored}
+use borrow.Author.Rules.{rules}
+use Rattle.entry.proofs.sua_to_sccp.Goals as goal
+
+pub returns : goal.returns
+returns c = entry_stored (counted_of c.to_sccp.result) _ c.args.report.now c.to_sccp.ensures c.store.ensures.value c.store.ensures.report_after

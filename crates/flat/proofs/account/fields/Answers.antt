@@ -1,0 +1,48 @@
+-- `flat::account::fields` meets its contract.
+use Prim.Native.Nat.{◌-◌}
+use native.Mathlib.Omega.{arith}
+use Rattle.address.proofs.Planning.{sound}
+use Rattle.flat.proofs.Emission.{emitted_more}
+use Rattle.flat.proofs.Accounting.{title_small, code_small_lem, sub_small, parts-stored}
+use borrow.Author.Rules.{rules}
+use Rattle.flat.proofs.account.fields.Goals as goal
+
+pub title-d-requires : goal.title-d-requires
+title-d-requires c = let r = c.requires.read in
+    let v = c.args.value.now in
+    let k = sound r.known r.whole in
+    let a = title_small v c.args.parts.title r.known.octets k.title in
+    let b = code_small_lem v c.args.parts.code in
+    let d = sub_small v c.args.parts.ssn in
+    (k.title, (r.known.within, omega (arith, c.requires.at_bound, c.put-a.ensures.behind, c.put-b.ensures.behind, c.put-c.ensures.behind)))
+
+pub code-e-requires : goal.code-e-requires
+code-e-requires c = let r = c.requires.read in
+    let v = c.args.value.now in
+    let k = sound r.known r.whole in
+    let a = title_small v c.args.parts.title r.known.octets k.title in
+    let b = code_small_lem v c.args.parts.code in
+    let d = sub_small v c.args.parts.ssn in
+    (k.code, omega (arith, c.requires.at_bound, c.put-a.ensures.behind, c.put-b.ensures.behind, c.put-c.ensures.behind, c.title-d.ensures.behind))
+
+pub ssn-f-requires : goal.ssn-f-requires
+ssn-f-requires c = let r = c.requires.read in
+    let v = c.args.value.now in
+    let k = sound r.known r.whole in
+    let a = title_small v c.args.parts.title r.known.octets k.title in
+    let b = code_small_lem v c.args.parts.code in
+    let d = sub_small v c.args.parts.ssn in
+    (k.ssn, omega (arith, c.requires.at_bound, c.put-a.ensures.behind, c.put-b.ensures.behind, c.put-c.ensures.behind, c.title-d.ensures.behind, c.code-e.ensures.behind))
+
+pub others-requires : goal.others-requires
+others-requires c = let r = c.requires.read in
+    let v = c.args.value.now in
+    let k = sound r.known r.whole in
+    let a = title_small v c.args.parts.title r.known.octets k.title in
+    let b = code_small_lem v c.args.parts.code in
+    let d = sub_small v c.args.parts.ssn in
+    (r, (c.requires.value_bound, omega (arith, c.requires.at_bound, c.put-a.ensures.behind, c.put-b.ensures.behind, c.put-c.ensures.behind, c.title-d.ensures.behind, c.code-e.ensures.behind, c.ssn-f.ensures.behind)))
+
+pub returns : goal.returns
+returns c = parts-stored c.args.base c.args.value.now c.args.parts c.requires.read.known.octets
+    (emitted_more (emitted_more (emitted_more (emitted_more (emitted_more (emitted_more c.put-a.ensures c.put-b.ensures) c.put-c.ensures) c.title-d.ensures) c.code-e.ensures) c.ssn-f.ensures) c.others.ensures)

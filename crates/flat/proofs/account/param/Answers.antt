@@ -1,0 +1,53 @@
+-- `flat::account::param` meets its contract.
+use Prim.Native.Nat.{ℕ, ◌-◌, ◌≤◌}
+use mathlib.Core.Path.{◌≡◌, sym, ap, ◌∙◌, subst}
+use mathlib.Core.List.{List}
+use native.Mathlib.Omega.{arith}
+use lib.ListN.{length}
+use Rattle.bcd.specs.declared.error.Counted.{Counted}
+use Rattle.bcd.specs.Digits.{built_in}
+use Rattle.bcd.specs.Answers.{counted_of}
+use Rattle.parameter.proofs.Running.{part_of, part_length}
+use Rattle.form.specs.Steps.Passes.{sum_of}
+use Rattle.flat.specs.Account.{address_account}
+use Rattle.flat.specs.Steps.Emitting.{Tried}
+use Rattle.flat.proofs.Accounting.{further_refused, further_raw, further_address}
+use borrow.Author.Rules.{rules}
+use Rattle.flat.proofs.account.param.Goals as goal
+
+pub put_place-behind-requires : goal.put_place-behind-requires
+put_place-behind-requires c =
+    let total : c.in-Count.at ≤ 18014398509481984 = rw c.in-Count.is at c.requires.sum_bound in
+    let n = total in
+    (omega (arith, c.requires), (omega (arith, c.requires), omega (arith, n)))
+
+pub address-requires : goal.address-requires
+address-requires c =
+    let total : c.in-Count.at ≤ 18014398509481984 = rw c.in-Count.is at c.requires.sum_bound in
+    let p = c.args.place in
+    let n = total in
+    let l = part_length p.start p.length c.args.input.now c.requires.length_bound in
+    let b = c.put_place-behind.ensures.behind in
+    (rw l (omega (arith, c.requires)), omega (arith, n, b))
+
+pub returns-then-is_address : goal.returns-then-is_address
+returns-then-is_address c = let p = c.args.place in
+    let xs = c.args.input.now in
+    let m = c.sum-in-Count-1.given in
+    let x = c.put_place-behind.ensures in
+    let w = c.address in
+    let y = subst (λ (v : List ℕ). Tried c.put_place-behind.new.out c.put_place-behind.result (address_account built_in p.start v) (counted_of w.result) w.new.1.1.1.0) (part_of p.start p.length xs) w.ensures.1 in
+    let t = sym c.is_address.ensures ∙ c.if-is_address.true in
+    let sum : sum_of (counted_of c.args.sum) ≡ m.0.0 = ap (λ (a : Counted). sum_of (counted_of a)) m.1 in
+    (omega (arith, w.ensures.0, x.behind, sum), further_address xs c.args.out.now p _ _ (ap counted_of m.1) t x y)
+
+pub returns-in-Refused : goal.returns-in-Refused
+returns-in-Refused c = let m = c.sum-1.given in
+    (omega arith, further_refused c.args.input.now c.args.out.now c.args.place _ _ _ (ap counted_of m.1))
+
+pub returns-else-is_address : goal.returns-else-is_address
+returns-else-is_address c = let m = c.sum-in-Count-1.given in
+    let x = c.put_place-behind.ensures in
+    let t = sym c.is_address.ensures ∙ c.if-is_address.false in
+    let sum : sum_of (counted_of c.args.sum) ≡ m.0.0 = ap (λ (a : Counted). sum_of (counted_of a)) m.1 in
+    (omega (arith, x.behind, sum), further_raw c.args.input.now c.args.out.now c.args.place _ _ (ap counted_of m.1) t x)

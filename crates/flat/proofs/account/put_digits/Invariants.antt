@@ -1,0 +1,16 @@
+-- `flat::account::put_digits` meets its contract: the loop has stored the first i digits.
+use Prim.Native.Nat.{ℕ, ◌+◌, ◌-◌, ◌≤◌}
+use mathlib.Core.Path.{◌≡◌, subst}
+use native.Mathlib.Omega.{arith}
+use Rattle.bcd.specs.Digits.{built_in, digits_in}
+use Rattle.flat.proofs.Describing.{digits_none, digits_next}
+use Rattle.flat.proofs.Emission.{emitted_same}
+use Rattle.flat.specs.Steps.Emitting.{Emitted}
+use borrow.Author.Rules.{rules}
+use Rattle.flat.proofs.account.put_digits.Given as goal
+
+abbrev pub invariant-loop-i : goal.invariant-loop-i
+invariant-loop-i l = (l.i ≤ l.n) × (l.to ≡ l.at + l.i) × Emitted l.initial.out l.at (digits_in built_in l.bytes l.i) l.to l.out
+
+abbrev pub decreases-loop-i : goal.decreases-loop-i
+decreases-loop-i l = l.n - l.i

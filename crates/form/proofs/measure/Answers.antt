@@ -1,0 +1,56 @@
+-- `form::measure` meets its contract: the loop has measured the first n parameters.
+use borrow.Author.Rules.{rules}
+use Prim.Native.Nat.{ℕ, ◌-◌, ◌<◌}
+use mathlib.Core.Path.{◌≡◌, sym, ap, ◌∙◌}
+use native.Mathlib.Omega.{arith}
+use lib.ListN.{length, get_or}
+use Rattle.bcd.specs.Answers.{counted_of}
+use Rattle.bcd.proofs.Outcomes.{bounded-within}
+use Rattle.parameter.specs.declared.Step.{Step}
+use Rattle.parameter.specs.Walk.{step_at}
+use Rattle.parameter.specs.Answers.{step_of}
+use Rattle.parameter.proofs.Walking.{step_inv}
+use Rattle.form.proofs.Measuring.{Measuring, found_small, measuring_start, measuring_more, measured_out, measured_end, measured_refused}
+use Rattle.form.proofs.measure.Goals as goal
+
+pub loop-n-init : goal.loop-n-init
+loop-n-init c = measuring_start c.args.input.now
+
+pub add-sum-requires : goal.add-sum-requires
+add-sum-requires c =
+    let stepped : (s : Step) → c.step.result ≡ s → step_at c.args.input.now c.loop-n.c.at ≡ step_of s = λ s e. let xs = c.args.input.now in
+    let at = c.loop-n.c.at in
+    sym (bounded-within xs (step_at xs at) c.requires) ∙ sym c.step.ensures ∙ ap step_of e in
+    let octets : (i : ℕ) → get_or c.args.input.now i 0 < 256 = λ i. omega (arith, c.type_inv.input i) in
+    let v = c.place-1.given in
+    let m = c.loop-n.invariant in
+    let e = stepped _ v.1 in
+    let f = step_inv c.args.input.now c.loop-n.c.at e in
+    (f.inside, (found_small c.args.input.now _ _ _ octets e, omega (arith, m.small, c.loop-n-test.true, c.requires)))
+
+pub loop-n-preserved : goal.loop-n-preserved
+loop-n-preserved c =
+    let stepped : (s : Step) → c.step.result ≡ s → step_at c.args.input.now c.loop-n.c.at ≡ step_of s = λ s e. let xs = c.args.input.now in
+    let at = c.loop-n.c.at in
+    sym (bounded-within xs (step_at xs at) c.requires) ∙ sym c.step.ensures ∙ ap step_of e in
+    let octets : (i : ℕ) → get_or c.args.input.now i 0 < 256 = λ i. omega (arith, c.type_inv.input i) in
+    let v = c.place-1.given in
+    let e = stepped _ v.1 in
+    measuring_more c.loop-n.invariant c.loop-n-test.true v.0.0 v.0.1.0.at _ (found_small c.args.input.now _ _ _ octets e) e c.add-sum.ensures
+
+pub returns-in-End : goal.returns-in-End
+returns-in-End c =
+    let stepped : (s : Step) → c.step.result ≡ s → step_at c.args.input.now c.loop-n.c.at ≡ step_of s = λ s e. let xs = c.args.input.now in
+    let at = c.loop-n.c.at in
+    sym (bounded-within xs (step_at xs at) c.requires) ∙ sym c.step.ensures ∙ ap step_of e in
+    measured_end c.loop-n.invariant c.loop-n-test.true (stepped _ c.in-End.is)
+
+pub returns-in-Refused : goal.returns-in-Refused
+returns-in-Refused c =
+    let stepped : (s : Step) → c.step.result ≡ s → step_at c.args.input.now c.loop-n.c.at ≡ step_of s = λ s e. let xs = c.args.input.now in
+    let at = c.loop-n.c.at in
+    sym (bounded-within xs (step_at xs at) c.requires) ∙ sym c.step.ensures ∙ ap step_of e in
+    measured_refused c.loop-n.invariant c.loop-n-test.true _ _ (stepped _ c.in-Refused.is)
+
+pub returns : goal.returns
+returns c = measured_out c.loop-n.invariant c.loop-n-test.false

@@ -1,0 +1,17 @@
+-- `lookup::contexts::in_set` meets its contract: the loop has looked at the first i numbers.
+use borrow.Author.Rules.{rules}
+use Prim.Native.Nat.{◌-◌, ◌≤◌}
+use mathlib.Core.Path.{◌≡◌, refl, sym, ap, ◌∙◌}
+use mathlib.Core.Bool.{◌||◌}
+use lib.Dec.{eqb}
+use lib.ListN.{length, get_or, take}
+use lib.Seq.{take_all}
+use Rattle.bcd.specs.Outcome.{among}
+use Rattle.bcd.proofs.Tests.{among_next}
+use Rattle.lookup.proofs.contexts.in_set.Given as goal
+
+abbrev pub invariant-loop-i : goal.invariant-loop-i
+invariant-loop-i l = (l.i ≤ length l.set) × (l.found ≡ among l.n (take l.i l.set))
+
+abbrev pub decreases-loop-i : goal.decreases-loop-i
+decreases-loop-i l = length l.set - l.i

@@ -1,0 +1,22 @@
+-- `lookup::last_octets` meets its contract.
+use mathlib.Core.Path.{◌≡◌, sym, ap}
+use mathlib.Core.Option.{map}
+use borrow.Author.Rules.{rules}
+use Rattle.bcd.specs.Outcome.{mapped}
+use Rattle.parameter.specs.declared.Number.{Number}
+use Rattle.parameter.specs.Answers.{number_of}
+use Rattle.lookup.specs.Octets.{cause_octets}
+use Rattle.lookup.proofs.last_octets.Goals as goal
+
+-- by the number's case
+answered : {m n : Number} → m ≡ n → mapped (map cause_octets) (number_of m) ≡ mapped (map cause_octets) (number_of n)
+answered e = ap (λ (x : Number). mapped (map cause_octets) (number_of x)) e
+
+pub returns-in-Value : goal.returns-in-Value
+returns-in-Value c = sym (answered c.in-Value.is)
+
+pub returns-in-None : goal.returns-in-None
+returns-in-None c = sym (answered c.in-None.is)
+
+pub returns-in-Refused : goal.returns-in-Refused
+returns-in-Refused c = sym (answered c.in-Refused.is)

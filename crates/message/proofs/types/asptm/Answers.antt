@@ -1,0 +1,27 @@
+-- `message::types::asptm` meets its contract: each arm's type has that pair, and no other type of the class has.
+use mathlib.Core.Path.{refl, sym, ◌∙◌}
+use mathlib.Core.Logic.{⊎_elim}
+use mathlib.Core.List.{[], ◌∷◌}
+use borrow.Author.Rules.{rules}
+use Rattle.message.specs.Types.{from_class_type}
+use Rattle.message.specs.declared.types.MessageType.TheVariants as T
+use Rattle.message.proofs.Pairs.{reads_as, other_type}
+use Rattle.message.proofs.types.asptm.Goals as goal
+
+pub returns-in-0 : goal.returns-in-0
+unfolding from_class_type
+returns-in-0 c = let t = c.args.msg_type in
+    c.unknown.ensures
+    ∙ ⊎_elim (λ w. rw w.keys5) (λ w. sym (other_type 4 t (4 ∷ 3 ∷ 2 ∷ 1 ∷ []) w.rest.0 refl)) c.in-1.branch
+
+pub returns-in-1 : goal.returns-in-1
+returns-in-1 c = reads_as T.AspActive 4 _ refl c.in-1.is
+
+pub returns-in-2 : goal.returns-in-2
+returns-in-2 c = reads_as T.AspInactive 4 _ refl c.in-2.is
+
+pub returns-in-3 : goal.returns-in-3
+returns-in-3 c = reads_as T.AspActiveAck 4 _ refl c.in-3.is
+
+pub returns-in-4 : goal.returns-in-4
+returns-in-4 c = reads_as T.AspInactiveAck 4 _ refl c.in-4.is

@@ -1,0 +1,17 @@
+-- `parameter::wire_length` meets its contract.
+use mathlib.Core.Path.{◌≡◌, sym, ap, ◌∙◌}
+use Prim.Native.Nat.{◌+◌, ◌*◌, ◌/◌}
+use native.Mathlib.Omega.{arith}
+use Rattle.bcd.specs.Outcome.{accepted}
+use Rattle.parameter.specs.Parameter.{padded_length}
+use Rattle.parameter.proofs.Encoding.{wire_beyond, wire_within}
+use borrow.Author.Rules.{rules}
+use Rattle.parameter.proofs.wire_length.Goals as goal
+
+pub returns-then-length-gt65531 : goal.returns-then-length-gt65531
+returns-then-length-gt65531 c = sym (wire_beyond c.args.tag c.args.length c.if-length-gt65531.true)
+
+pub returns : goal.returns
+returns c = let n = c.args.length in
+    let e : (n + 7) / 4 * 4 ≡ padded_length n = omega arith in
+    ap accepted e ∙ sym (wire_within c.args.tag n c.if-length-gt65531.false)

@@ -1,0 +1,9 @@
+-- `rounds::titles::nothing` is safe and ends.
+use Rattle.std.proofs.Common.{◌-◌, ◌≤◌, rules}
+use Rattle.rounds.proofs.titles.nothing.Given as goal
+
+abbrev pub invariant-loop-i : goal.invariant-loop-i
+invariant-loop-i l = l.i ≤ l.count
+
+abbrev pub decreases-loop-i : goal.decreases-loop-i
+decreases-loop-i l = l.count - l.i

@@ -1,0 +1,40 @@
+-- `tally::longest::title_row` meets its contract: no digit past the fifteenth decides.
+use Prim.Native.Nat.{ℕ, ◌-◌, ◌*◌, min}
+use mathlib.Core.Path.{◌≡◌, refl}
+use mathlib.Core.Logic.{⊎_elim}
+use mathlib.Core.List.{List}
+use native.Mathlib.Omega.{arith}
+use lib.ListN.{length, get_or}
+use Rattle.tally.proofs.Titles.{rest-length, title_found}
+use borrow.Author.Rules.{rules}
+use Rattle.tally.proofs.longest.title_row.Goals as goal
+
+pub overflow_cast-n : goal.overflow_cast-n
+overflow_cast-n c = omega (arith, c.type_inv.title 4)
+
+pub write_starts-requires : goal.write_starts-requires
+write_starts-requires c =
+    let fewest : c.if-n-gt15.n ≡ min 15 (min (get_or c.args.title.now 4 0) (2 * (length c.args.title.now - 8))) = ⊎_elim
+    (λ a. ⊎_elim (λ b. omega arith) (λ b. omega arith) c.if-there-n.branch)
+    (λ a. ⊎_elim (λ b. omega arith) (λ b. omega arith) c.if-there-n.branch)
+    c.if-n-gt15.branch in
+    let e = fewest in
+    (omega arith, (omega (arith, rest-length c.args.title.now), refl))
+
+pub longest-requires : goal.longest-requires
+longest-requires c =
+    let fewest : c.if-n-gt15.n ≡ min 15 (min (get_or c.args.title.now 4 0) (2 * (length c.args.title.now - 8))) = ⊎_elim
+    (λ a. ⊎_elim (λ b. omega arith) (λ b. omega arith) c.if-there-n.branch)
+    (λ a. ⊎_elim (λ b. omega arith) (λ b. omega arith) c.if-there-n.branch)
+    c.if-n-gt15.branch in
+    let e = fewest in
+    (c.requires.usable, omega arith)
+
+pub returns : goal.returns
+returns c =
+    let fewest : c.if-n-gt15.n ≡ min 15 (min (get_or c.args.title.now 4 0) (2 * (length c.args.title.now - 8))) = ⊎_elim
+    (λ a. ⊎_elim (λ b. omega arith) (λ b. omega arith) c.if-there-n.branch)
+    (λ a. ⊎_elim (λ b. omega arith) (λ b. omega arith) c.if-there-n.branch)
+    c.if-n-gt15.branch in
+    title_found c.args.lengths.now c.args.held.now c.args.title.now _ _ c.if-n-gt15.n c.longest.result c.requires.usable
+    (λ i. (c.type_inv.title i).fits) fewest c.write_starts.ensures c.longest.ensures

@@ -1,0 +1,45 @@
+-- `tally::place::last` meets its contract: the loop has walked n parameters and keeps the last with the tag.
+use borrow.Author.Rules.{rules}
+use Prim.Native.Nat.{◌-◌}
+use mathlib.Core.Path.{◌≡◌, sym, ap, ◌∙◌}
+use mathlib.Core.Logic.{⊎_elim}
+use lib.ListN.{length}
+use Rattle.bcd.proofs.Outcomes.{bounded-within}
+use Rattle.parameter.specs.declared.Step.{Step}
+use Rattle.parameter.specs.Walk.{step_at}
+use Rattle.parameter.specs.Answers.{step_of, found_of}
+use Rattle.tally.proofs.Looking.{Keeping, keeping_start, keeping_same, keeping_other, kept_end, kept_refused, kept_out}
+use Rattle.tally.proofs.place.last.Goals as goal
+
+pub loop-n-init : goal.loop-n-init
+loop-n-init c = keeping_start c.args.bytes.now c.args.from c.args.tag
+
+pub loop-n-preserved : goal.loop-n-preserved
+loop-n-preserved c =
+    let stepped : (s : Step) → c.step.result ≡ s → step_at c.args.bytes.now c.loop-n.c.at ≡ step_of s = λ s e. let xs = c.args.bytes.now in
+    let at = c.loop-n.c.at in
+    sym (bounded-within xs (step_at xs at) c.requires.size) ∙ sym c.step.ensures ∙ ap step_of e in
+    let v = c.p-1.given in
+    let i = c.loop-n.invariant in
+    let e = stepped _ v.1 in
+    ⊎_elim
+    (λ w. keeping_same i c.loop-n-test.true v.0.0 v.0.1.0.at e _ (ap found_of w.1) w.0.taken)
+    (λ w. keeping_other i c.loop-n-test.true v.0.0 v.0.1.0.at e _ (ap found_of w.1) w.0.left)
+    c.if-p-tag.branch
+
+pub returns-in-End : goal.returns-in-End
+returns-in-End c =
+    let stepped : (s : Step) → c.step.result ≡ s → step_at c.args.bytes.now c.loop-n.c.at ≡ step_of s = λ s e. let xs = c.args.bytes.now in
+    let at = c.loop-n.c.at in
+    sym (bounded-within xs (step_at xs at) c.requires.size) ∙ sym c.step.ensures ∙ ap step_of e in
+    kept_end c.loop-n.invariant c.loop-n-test.true (stepped _ c.in-End.is)
+
+pub returns-in-Refused : goal.returns-in-Refused
+returns-in-Refused c =
+    let stepped : (s : Step) → c.step.result ≡ s → step_at c.args.bytes.now c.loop-n.c.at ≡ step_of s = λ s e. let xs = c.args.bytes.now in
+    let at = c.loop-n.c.at in
+    sym (bounded-within xs (step_at xs at) c.requires.size) ∙ sym c.step.ensures ∙ ap step_of e in
+    kept_refused c.loop-n.invariant c.loop-n-test.true _ _ (stepped _ c.in-Refused.is)
+
+pub returns : goal.returns
+returns c = kept_out c.loop-n.invariant c.loop-n-test.false

@@ -1,0 +1,126 @@
+-- `tally::tally` meets its contract: list and rows are valid, and one row gains what the message adds.
+use Prim.Native.Nat.{ℕ, ◌+◌, ◌^◌, ◌<◌}
+use mathlib.Core.Path.{◌≡◌, sym, ap, ap₂, ◌∙◌}
+use mathlib.Core.Bool.{true}
+use mathlib.Core.Logic.{inl, inr}
+use mathlib.Core.List.{List}
+use native.Mathlib.Omega.{arith}
+use lib.ListN.{length, get_or}
+use borrow.Author.Rules.{rules}
+use borrow.Author.Tests.{not-true, not-false}
+use Rattle.bcd.specs.Outcome.{accepted}
+use Rattle.bcd.proofs.Outcomes.{octets-of}
+use Rattle.tally.specs.declared.place.Gain.{Gain}
+use Rattle.tally.specs.Members.{members, valid_members}
+use Rattle.tally.specs.Rows.{rows, valid_rows}
+use Rattle.tally.specs.Tally.{tallied}
+use Rattle.tally.proofs.Loading.{load_kept}
+use Rattle.tally.proofs.Rules.{valid_rows_lem}
+use Rattle.tally.proofs.Placing.{placed-octets}
+use Rattle.tally.proofs.Summing.{below_sum}
+use Rattle.tally.proofs.Calls.{adds, usable, row_within, call_gains}
+use Rattle.tally.proofs.Day.{list_first}
+use Rattle.tally.proofs.tally.Goals as goal
+
+-- its row is there, and has room
+record Fits (p : tie.After-place) : Type 0 where
+  messages : p.place.result.row < length (start (listed_at p).before).args.messages.now
+  octets : p.place.result.row < length (start (listed_at p).before).args.octets.now
+  one : get_or (start (listed_at p).before).args.messages.now p.place.result.row 0 + 1 < 2 ^ 64
+  more : get_or (start (listed_at p).before).args.octets.now p.place.result.row 0 + p.place.result.octets < 2 ^ 64
+
+pub returns-then-not-load : goal.returns-then-not-load
+returns-then-not-load c = sym (list_first c.args.digits.now c.args.lengths.now c.args.input.now (rows c.args.messages.now c.args.octets.now)
+    (inl (sym c.load.ensures.value ∙ not-true c.load.result c.if-not-load.true-raw)))
+
+pub valid-requires : goal.valid-requires
+valid-requires c =
+    let listed : valid_members c.args.digits.now c.args.lengths.now ≡ true = sym c.load.ensures.value ∙ not-false c.load.result c.if-not-load.false-raw in
+    (load_kept c.args.digits.now c.args.lengths.now _ _ listed (c.load.ensures.held_after (not-false c.load.result c.if-not-load.false-raw))).usable.few
+
+pub returns-then-not-valid : goal.returns-then-not-valid
+returns-then-not-valid c = sym (list_first c.args.digits.now c.args.lengths.now c.args.input.now (rows c.args.messages.now c.args.octets.now)
+    (inr (sym c.valid.ensures ∙ not-true c.valid.result c.if-not-valid.true-raw)))
+
+pub place-gain-requires : goal.place-gain-requires
+place-gain-requires c =
+    let listed : valid_members c.args.digits.now c.args.lengths.now ≡ true = sym c.load.ensures.value ∙ not-false c.load.result c.if-not-load.false-raw in
+    (load_kept c.args.digits.now c.args.lengths.now _ _ listed (c.load.ensures.held_after (not-false c.load.result c.if-not-load.false-raw))).usable
+
+pub raise-requires : goal.raise-requires
+raise-requires c =
+    let listed : valid_members c.args.digits.now c.args.lengths.now ≡ true = sym c.load.ensures.value ∙ not-false c.load.result c.if-not-load.false-raw in
+    let adding : c.place-gain.result
+    ≡ adds c.args.digits.now c.args.lengths.now c.args.input.now = c.place-gain.ensures (members c.args.digits.now c.args.lengths.now)
+    (load_kept c.args.digits.now c.args.lengths.now _ _ listed (c.load.ensures.held_after (not-false c.load.result c.if-not-load.false-raw))).kept in
+    let valid : valid_rows
+    (length c.args.lengths.now)
+    (rows c.args.messages.now c.args.octets.now)
+    ≡ true = sym c.valid.ensures ∙ not-false c.valid.result c.if-not-valid.false-raw in
+    let fits : Fits c = let ds = c.args.digits.now in
+    let ns = c.args.lengths.now in
+    let xs = c.args.input.now in
+    let ms = c.args.messages.now in
+    let g = adding in
+    let o = (valid_rows_lem (length ns) (rows ms c.args.octets.now)).0 valid in
+    let row = row_within ds ns xs in
+    let same : c.place-gain.result.row ≡ (adds ds ns xs).row = ap (λ (g : Gain). g.row) g in
+    let size : c.place-gain.result.octets ≡ (adds ds ns xs).octets = ap (λ (g : Gain). g.octets) g in
+    let few = below_sum c.place-gain.result.row ms in
+    let covered = o.covered c.place-gain.result.row in
+    let short = placed-octets (members ds ns) xs (octets-of xs (λ i. omega (arith, c.type_inv.input i))) in
+    record {
+      messages = omega (arith, row, same, o.messages);
+      octets = omega (arith, row, same, o.octets);
+      one = omega (arith, few, o.few);
+      more = omega (arith, few, o.few, covered, size, short);
+    } in
+    let f = fits in (f.messages, f.one)
+
+pub raise-requires-2 : goal.raise-requires-2
+raise-requires-2 c =
+    let listed : valid_members c.args.digits.now c.args.lengths.now ≡ true = sym c.load.ensures.value ∙ not-false c.load.result c.if-not-load.false-raw in
+    let adding : c.place-gain.result
+    ≡ adds c.args.digits.now c.args.lengths.now c.args.input.now = c.place-gain.ensures (members c.args.digits.now c.args.lengths.now)
+    (load_kept c.args.digits.now c.args.lengths.now _ _ listed (c.load.ensures.held_after (not-false c.load.result c.if-not-load.false-raw))).kept in
+    let valid : valid_rows
+    (length c.args.lengths.now)
+    (rows c.args.messages.now c.args.octets.now)
+    ≡ true = sym c.valid.ensures ∙ not-false c.valid.result c.if-not-valid.false-raw in
+    let fits : Fits c = let ds = c.args.digits.now in
+    let ns = c.args.lengths.now in
+    let xs = c.args.input.now in
+    let ms = c.args.messages.now in
+    let g = adding in
+    let o = (valid_rows_lem (length ns) (rows ms c.args.octets.now)).0 valid in
+    let row = row_within ds ns xs in
+    let same : c.place-gain.result.row ≡ (adds ds ns xs).row = ap (λ (g : Gain). g.row) g in
+    let size : c.place-gain.result.octets ≡ (adds ds ns xs).octets = ap (λ (g : Gain). g.octets) g in
+    let few = below_sum c.place-gain.result.row ms in
+    let covered = o.covered c.place-gain.result.row in
+    let short = placed-octets (members ds ns) xs (octets-of xs (λ i. omega (arith, c.type_inv.input i))) in
+    record {
+      messages = omega (arith, row, same, o.messages);
+      octets = omega (arith, row, same, o.octets);
+      one = omega (arith, few, o.few);
+      more = omega (arith, few, o.few, covered, size, short);
+    } in
+    let f = fits in (f.octets, f.more)
+
+pub returns : goal.returns
+returns c =
+    let listed : valid_members c.args.digits.now c.args.lengths.now ≡ true = sym c.load.ensures.value ∙ not-false c.load.result c.if-not-load.false-raw in
+    let valid : valid_rows
+    (length c.args.lengths.now)
+    (rows c.args.messages.now c.args.octets.now)
+    ≡ true = sym c.valid.ensures ∙ not-false c.valid.result c.if-not-valid.false-raw in
+    let adding : c.place-gain.result
+    ≡ adds c.args.digits.now c.args.lengths.now c.args.input.now = c.place-gain.ensures (members c.args.digits.now c.args.lengths.now)
+    (load_kept c.args.digits.now c.args.lengths.now _ _ listed (c.load.ensures.held_after (not-false c.load.result c.if-not-load.false-raw))).kept in
+    let g = c.place-gain.result in
+    let ds = c.args.digits.now in
+    let ns = c.args.lengths.now in
+    let held = rows c.args.messages.now c.args.octets.now in
+    let u : usable ds ns held ≡ true = rw (listed, valid) in
+    ap₂ (λ (ms os : List ℕ). tallied (accepted g.row) (rows ms os)) c.raise.ensures c.raise-2.ensures
+    ∙ sym (call_gains ds ns c.args.input.now held g u adding)

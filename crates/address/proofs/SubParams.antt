@@ -95,16 +95,16 @@ four_small v o = omega (arith, octets_at v 0 o, octets_at v 1 o, octets_at v 2 o
 four-octets : (n : ℕ) → n < 2 ^ 32 → Octets (four n)
 four-octets n h = (omega arith, (omega arith, (omega arith, (omega arith, tt))))
 
-pub piece_back :
+back :
     (A : Alphabet)
     → Lawful A
-    → {x : Piece} (p : Param) (qs : List Param)
+    → (p : Param) (x : Piece) (qs : List Param)
     → Fits p
     → PieceOf A p x
     → sub_param A x ≡ accepted qs
     → (q : Param) × (q ∷ [] ≡ qs) × Back A x q
 unfolding piece_in sub_param
-piece_back A L p qs f (is_title t h e) d =
+back A L p _ qs f (is_title t h e) d =
     let (w, hw, same) = mapped_inv {B = List Param} (λ v. record { tag = 0x8001; value = v } ∷ []) (write_title A t) d in
     let r = title_rewritten A L p.value w t f.octets e hw in
     let few = title_digits A p.value t f.octets (title_inv A p.value t e) in (
@@ -116,7 +116,7 @@ piece_back A L p qs f (is_title t h e) d =
         size = omega (arith, r.size);
       },
     )
-piece_back A L p qs f (is_code h l) d =
+back A L p _ qs f (is_code h l) d =
     let n = four_in p.value in (
       record { tag = 0x8002; value = four n },
       accepted_inj d,
@@ -126,7 +126,7 @@ piece_back A L p qs f (is_code h l) d =
         size = refl;
       },
     )
-piece_back A L p qs f (is_sub h l) d =
+back A L p _ qs f (is_sub h l) d =
     let n = get_or p.value 3 0 in
     let small = octets_at p.value 3 f.octets in (
       record { tag = 0x8003; value = 0 ∷ 0 ∷ 0 ∷ n ∷ [] },
@@ -137,8 +137,18 @@ piece_back A L p qs f (is_sub h l) d =
         size = refl;
       },
     )
-piece_back A L p qs f (is_other n m k) d =
+back A L p _ qs f (is_other n m k) d =
     (p, accepted_inj d, record { fits = f; reads = rw (ne_eqb _ _ n, ne_eqb _ _ m, ne_eqb _ _ k); size = refl })
+
+pub piece_back :
+    (A : Alphabet)
+    → Lawful A
+    → {x : Piece} (p : Param) (qs : List Param)
+    → Fits p
+    → PieceOf A p x
+    → sub_param A x ≡ accepted qs
+    → (q : Param) × (q ∷ [] ≡ qs) × Back A x q
+piece_back A L {x} p qs f i d = back A L p x qs f i d
 
 -- Pieces that were written, each as one sub-parameter.
 pub record Written (A : Alphabet) (xs : List Piece) (qs : List Param) : Type 0 where

@@ -76,4 +76,4 @@ emit_begun {out} {p} {d} at (v ∷ os) b n h =
     let here : stored d at v ≡ set d at v = rw (lt-ltb at (length d) (omega (arith, b.same))) in
     let one = subst (λ (e : List ℕ). Begun out (p ++ (v ∷ [])) e) (sym here) (store at v b n (omega arith)) in
     subst (λ (q : List ℕ). Begun out q (emit (stored d at v) (at + 1) os)) (append_assoc p (v ∷ []) os)
-    (emit_begun (at + 1) os one (rw length-append (omega arith)) (omega arith))
+    (emit_begun {p = p ++ (v ∷ [])} (at + 1) os one (rw length-append (omega arith)) (omega arith))

@@ -1,6 +1,5 @@
 -- Laws and theorems that belong to no one function.
 pub mod Planning
 pub mod Storing
-pub mod Filling
 pub mod Columns
 pub mod Reading

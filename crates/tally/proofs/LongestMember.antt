@@ -1,6 +1,6 @@
 -- The place of the longest member: what stands there, and that no digit past the fifteenth decides.
 use Prim.Native.Nat.{ℕ, zero, suc, ◌*◌, ◌≤◌, ◌<◌, max, min}
-use mathlib.Core.Path.{◌≡◌, refl, sym, ap, ap₂, ◌∙◌}
+use mathlib.Core.Path.{◌≡◌, refl, sym, ap, ap₂, ◌∙◌, subst}
 use mathlib.Core.Bool.{Bool, true, false}
 use mathlib.Core.Logic.{◌⊎◌, inl, inr, ⊎_elim}
 use mathlib.Core.List.{List, [], ◌∷◌, map}
@@ -57,7 +57,8 @@ reach-place (p ∷ ps) ds h =
     rw (m, begins-take p ds b, same_self p) (omega arith))
     (λ l.
     let m : reach (p ∷ ps) ds ≡ reach ps ds = omega arith in
-    rw m (go (same (take (reach ps ds) ds) p) (reach-place ps ds (omega arith))))
+    subst (λ (n : ℕ). place_of (take n ds) (p ∷ ps) < length (p ∷ ps)) (sym m)
+    (go (same (take (reach ps ds) ds) p) (reach-place ps ds (omega arith))))
     (le_or_lt (reach ps ds) (fit p ds))
   where
     go : (b : Bool) → place_of (take (reach ps ds) ds) ps < length ps → pick b 0 (suc (place_of (take (reach ps ds) ds) ps)) < length (p ∷ ps)

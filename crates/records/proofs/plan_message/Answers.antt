@@ -2,7 +2,7 @@
 use Rattle.std.proofs.Common.{◌∙◌, sym, ap}
 use Rattle.bcd.specs.Outcome.{Outcome}
 use Rattle.message.specs.declared.SuaMessage.{SuaMessage}
-use Rattle.records.specs.Steps.Storing.{Planned, plan_of}
+use Rattle.records.specs.Steps.Storing.{plan_of}
 use Rattle.records.proofs.Planning.{message_plan_refused, message_plan_read}
 use Rattle.records.proofs.plan_message.Goals as goal
 

@@ -22,9 +22,8 @@ add-sum-requires c =
     let at = c.loop-n.c.at in
     sym (bounded-within xs (step_at xs at) c.requires) ∙ sym c.step.ensures ∙ ap step_of e in
     let octets : (i : ℕ) → get_or c.args.input.now i 0 < 256 = λ i. omega (arith, c.type_inv.input i) in
-    let v = c.place-1.given in
     let m = c.loop-n.invariant in
-    let e = stepped _ v.1 in
+    let e = stepped _ c.in-Parameter.is in
     let f = step_inv c.args.input.now c.loop-n.c.at e in
     (f.inside, (found_small c.args.input.now _ _ _ octets e, omega (arith, m.small, c.loop-n-test.true, c.requires)))
 
@@ -34,9 +33,8 @@ loop-n-preserved c =
     let at = c.loop-n.c.at in
     sym (bounded-within xs (step_at xs at) c.requires) ∙ sym c.step.ensures ∙ ap step_of e in
     let octets : (i : ℕ) → get_or c.args.input.now i 0 < 256 = λ i. omega (arith, c.type_inv.input i) in
-    let v = c.place-1.given in
-    let e = stepped _ v.1 in
-    measuring_more c.loop-n.invariant c.loop-n-test.true v.0.0 v.0.1.0.at _ (found_small c.args.input.now _ _ _ octets e) e c.add-sum.ensures
+    let e = stepped _ c.in-Parameter.is in
+    measuring_more c.loop-n.invariant c.loop-n-test.true c.in-Parameter.place c.in-Parameter.next.at _ (found_small c.args.input.now _ _ _ octets e) e c.add-sum.ensures
 
 pub returns-in-End : goal.returns-in-End
 returns-in-End c =

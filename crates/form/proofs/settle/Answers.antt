@@ -55,10 +55,7 @@ pub write_params-requires : goal.write_params-requires
 write_params-requires c =
     let headed : read_header c.args.input.now ≡ accepted c.in-Header.h = sym c.decode.ensures ∙ ap header_read_of c.in-Header.is in
     let measured : (r : Counted) → c.measure.result ≡ r → counted_of r ≡ mapped run_length (settled_run built_in c.args.input.now) = λ r e. sym (ap counted_of e) ∙ c.measure.ensures in
-    (
-      header_within c.args.input.now _ headed,
-      (measured _ c.in-Count.is, simp (length-take, length-drop) (omega arith)),
-    )
+    record { input_len_bound = header_within c.args.input.now _ headed; run_value = measured _ c.in-Count.is; run_in_bounds = simp (length-take, length-drop) (omega arith) }
 
 pub returns-in-Refused : goal.returns-in-Refused
 returns-in-Refused c = rw (settled_refused built_in c.args.input.now _ _ (sym c.decode.ensures ∙ ap header_read_of c.in-Refused.is)) (deliver_refused _ _ c.args.out.now)

@@ -40,7 +40,7 @@ move_starts-requires c =
     value-octets values c.in-At.place (octets-of values (λ i. (c.type_inv.values i).fits)) in
     let read : listed (verdict_of c.decode-read.result.verdict) c.decode-read.result.address ((let l = c.decode-read.new in table l.1.0 l.1.1.0 l.1.1.1.0)) ≡ list_address (((valued c.args.values.now c.in-At.place).value)) ((table c.args.other_tags.now c.args.other_starts.now c.args.other_lengths.now)) = c.decode-read.ensures ∙ ap (λ (v : List ℕ). list_address v ((table c.args.other_tags.now c.args.other_starts.now c.args.other_lengths.now))) (part_value c.args.values.now c.in-At.place) in
     let m = moves c.in-At.place.start (((valued c.args.values.now c.in-At.place).value)) ((table c.args.other_tags.now c.args.other_starts.now c.args.other_lengths.now)) _ _ ((let l = c.decode-read.new in table l.1.0 l.1.1.0 l.1.1.1.0)) small octets read in
-    (m.few, m.fit)
+    record { count_in_bounds = m.few; all = m.fit }
 
 pub returns-in-Refused : goal.returns-in-Refused
 returns-in-Refused c =

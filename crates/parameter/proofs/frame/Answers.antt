@@ -18,7 +18,7 @@ pub surround-requires : goal.surround-requires
 surround-requires c =
     let counted : accepted c.in-Count.n ≡ wire_length c.args.tag c.args.length = sym (ap counted_of c.in-Count.is) ∙ c.wire_length.ensures in
     let w = wire_inv _ _ _ counted in
-    (w.0, omega (arith, w.1, c.if-out-n.false))
+    record { length_le_most_value = w.0; length_bound = omega (arith, w.1, c.if-out-n.false) }
 
 pub returns-in-Refused : goal.returns-in-Refused
 returns-in-Refused c = frame_beyond c.args.tag c.args.length c.args.out.now _ _ (sym (ap counted_of c.in-Refused.is) ∙ c.wire_length.ensures)

@@ -15,27 +15,27 @@ use Rattle.pieces.proofs.write_addressed.Goals as goal
 
 pub returns-then-out-total : goal.returns-then-out-total
 returns-then-out-total c =
-    let answered : (r : Counted) → c.addressed_length.result ≡ r → counted_of r ≡ mapped length ((addressed
+    let whole : Outcome (List ℕ) = addressed
     (encode_address_as 0x0102 c.args.src c.args.sv.now (record { tags = c.args.st.now; starts = c.args.ss.now; lengths = c.args.sl.now }))
     (encode_address_as 0x0103 c.args.dst c.args.dv.now (record { tags = c.args.dt.now; starts = c.args.ds.now; lengths = c.args.dl.now }))
-    (run_params c.args.x c.args.y c.args.z c.args.«data».now []))) = λ r e. sym (ap counted_of e) ∙ c.addressed_length.ensures in
+    (run_params c.args.x c.args.y c.args.z c.args.«data».now []) in
+    let answered : (r : Counted) → c.addressed_length.result ≡ r → counted_of r ≡ mapped length whole = λ r e. sym (ap counted_of e) ∙ c.addressed_length.ensures in
     deliver_too_long _ _ c.args.out.now (answered _ c.in-Count.is) c.if-out-total.true
 
 pub put_addressed-requires : goal.put_addressed-requires
 put_addressed-requires c =
-    let answered : (r : Counted) → c.addressed_length.result ≡ r → counted_of r ≡ mapped length ((addressed
+    let whole : Outcome (List ℕ) = addressed
     (encode_address_as 0x0102 c.args.src c.args.sv.now (record { tags = c.args.st.now; starts = c.args.ss.now; lengths = c.args.sl.now }))
     (encode_address_as 0x0103 c.args.dst c.args.dv.now (record { tags = c.args.dt.now; starts = c.args.ds.now; lengths = c.args.dl.now }))
-    (run_params c.args.x c.args.y c.args.z c.args.«data».now []))) = λ r e. sym (ap counted_of e) ∙ c.addressed_length.ensures in
-    placeable ((addressed
-    (encode_address_as 0x0102 c.args.src c.args.sv.now (record { tags = c.args.st.now; starts = c.args.ss.now; lengths = c.args.sl.now }))
-    (encode_address_as 0x0103 c.args.dst c.args.dv.now (record { tags = c.args.dt.now; starts = c.args.ds.now; lengths = c.args.dl.now }))
-    (run_params c.args.x c.args.y c.args.z c.args.«data».now []))) _ _ (answered _ c.in-Count.is) c.if-out-total.false
+    (run_params c.args.x c.args.y c.args.z c.args.«data».now []) in
+    let answered : (r : Counted) → c.addressed_length.result ≡ r → counted_of r ≡ mapped length whole = λ r e. sym (ap counted_of e) ∙ c.addressed_length.ensures in
+    placeable whole _ _ (answered _ c.in-Count.is) c.if-out-total.false
 
 pub returns-in-Refused : goal.returns-in-Refused
 returns-in-Refused c =
-    let answered : (r : Counted) → c.addressed_length.result ≡ r → counted_of r ≡ mapped length ((addressed
+    let whole : Outcome (List ℕ) = addressed
     (encode_address_as 0x0102 c.args.src c.args.sv.now (record { tags = c.args.st.now; starts = c.args.ss.now; lengths = c.args.sl.now }))
     (encode_address_as 0x0103 c.args.dst c.args.dv.now (record { tags = c.args.dt.now; starts = c.args.ds.now; lengths = c.args.dl.now }))
-    (run_params c.args.x c.args.y c.args.z c.args.«data».now []))) = λ r e. sym (ap counted_of e) ∙ c.addressed_length.ensures in
+    (run_params c.args.x c.args.y c.args.z c.args.«data».now []) in
+    let answered : (r : Counted) → c.addressed_length.result ≡ r → counted_of r ≡ mapped length whole = λ r e. sym (ap counted_of e) ∙ c.addressed_length.ensures in
     deliver-passed_on _ _ _ c.args.out.now (answered _ c.in-Refused.is)

@@ -19,7 +19,4 @@ loop-i-preserved c = let size = ap length c.answer_numbers-list.ensures in
     (search rules, store_next c.answer_numbers-list.result c.loop-i.i c.loop-i.invariant.1 (omega arith) (omega arith))
 
 pub returns : goal.returns
-returns c = (
-      ap (λ (ns : List ℕ). get_or ns 0 0) c.answer_numbers-list.ensures,
-      all-stored (counted_of c.args.answer) c.answer_numbers-list.result c.args.report.now c.loop-i.report c.loop-i.i c.answer_numbers-list.ensures c.loop-i.invariant.1 (omega arith) (omega arith),
-    )
+returns c = record { value = ap (λ (ns : List ℕ). get_or ns 0 0) c.answer_numbers-list.ensures; report_after = all-stored (counted_of c.args.answer) c.answer_numbers-list.result c.args.report.now c.loop-i.report c.loop-i.i c.answer_numbers-list.ensures c.loop-i.invariant.1 (omega arith) (omega arith) }

@@ -75,7 +75,7 @@ raise-requires c =
       one = omega (arith, few, o.few);
       more = omega (arith, few, o.few, covered, size, short);
     } in
-    let f = fits in (f.messages, f.one)
+    let f = fits in record { place_in_bounds = f.messages; more_bound = f.one }
 
 pub raise-requires-2 : goal.raise-requires-2
 raise-requires-2 c =
@@ -105,7 +105,7 @@ raise-requires-2 c =
       one = omega (arith, few, o.few);
       more = omega (arith, few, o.few, covered, size, short);
     } in
-    let f = fits in (f.octets, f.more)
+    let f = fits in record { place_in_bounds = f.octets; more_bound = f.more }
 
 pub returns : goal.returns
 returns c =

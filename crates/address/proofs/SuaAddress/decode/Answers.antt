@@ -39,7 +39,7 @@ list_others-requires c =
     let answered : (r : Surveyed) → c.interpret.result ≡ r → surveyed_of r ≡ interpreted c.args.value.now = λ r e. sym (ap surveyed_of e) ∙ c.interpret.ensures in
     let read : Read c.args.value.now c.in-Parts.parts = let v = c.args.value.now in
     interpreted-read (octets-of v (λ i. (c.type_inv.value i).fits)) (answered _ c.in-Parts.is) in
-    (read, (c.if-tags-needed.false, (c.if-starts-needed.false, c.if-lengths-needed.false)))
+    record { read = read; other_count_in_bounds = c.if-tags-needed.false; other_count_in_bounds_2 = c.if-starts-needed.false; other_count_in_bounds_3 = c.if-lengths-needed.false }
 
 pub record_of-requires : goal.record_of-requires
 record_of-requires c =

@@ -24,7 +24,7 @@ bounds-lengths-row c =
 pub returns-then-is_other : goal.returns-then-is_other
 returns-then-is_other c =
     let other : is_other c.args.place.tag ≡ true = sym c.is_other.ensures ∙ c.if-is_other.true in
-    let o = other in (rw o, (rw o, (rw o, rw o)))
+    let o = other in record { value = rw o; tags_after = rw o; starts_after = rw o; lengths_after = rw o }
 
 pub returns : goal.returns
-returns c = let o = sym c.is_other.ensures ∙ c.if-is_other.false in (rw o (omega arith), (rw o, (rw o, rw o)))
+returns c = let o = sym c.is_other.ensures ∙ c.if-is_other.false in record { value = rw o (omega arith); tags_after = rw o; starts_after = rw o; lengths_after = rw o }

@@ -21,8 +21,7 @@ list_other-row-requires c =
     let stepped : (s : Step) → c.step.result ≡ s → step_at c.args.value.now c.loop-n.c.at ≡ step_of s = λ s e. let xs = c.args.value.now in
     let at = c.loop-n.c.at in
     sym (bounded-within xs (step_at xs at) c.requires.read.known.within) ∙ sym c.step.ensures ∙ ap step_of e in
-    let turn : Turn c.args.parts c.in-Parameter.p c.loop-n.row = let v = c.p-1.given in
-    tabling_turn c.loop-n.invariant c.loop-n-test.true v.0.0 v.0.1.0.at (stepped _ v.1) c.requires.read.known in
+    let turn : Turn c.args.parts c.in-Parameter.p c.loop-n.row = tabling_turn c.loop-n.invariant c.loop-n-test.true c.in-Parameter.p c.in-Parameter.next.at (stepped _ c.in-Parameter.is) c.requires.read.known in
     let rows : HasRow c.in-Parameter.p c.loop-n.row c.args.tags.now × HasRow c.in-Parameter.p c.loop-n.row c.args.starts.now × HasRow c.in-Parameter.p c.loop-n.row c.args.lengths.now = let t = turn in
     ((λ o. omega (arith, t.below o, c.requires.other_count_in_bounds)), (λ o. omega (arith, t.below o, c.requires.other_count_in_bounds_2)), (λ o. omega (arith, t.below o, c.requires.other_count_in_bounds_3))) in
     let (a, b, d) = rows in
@@ -33,14 +32,12 @@ loop-n-preserved c =
     let stepped : (s : Step) → c.step.result ≡ s → step_at c.args.value.now c.loop-n.c.at ≡ step_of s = λ s e. let xs = c.args.value.now in
     let at = c.loop-n.c.at in
     sym (bounded-within xs (step_at xs at) c.requires.read.known.within) ∙ sym c.step.ensures ∙ ap step_of e in
-    let turn : Turn c.args.parts c.in-Parameter.p c.loop-n.row = let v = c.p-1.given in
-    tabling_turn c.loop-n.invariant c.loop-n-test.true v.0.0 v.0.1.0.at (stepped _ v.1) c.requires.read.known in
+    let turn : Turn c.args.parts c.in-Parameter.p c.loop-n.row = tabling_turn c.loop-n.invariant c.loop-n-test.true c.in-Parameter.p c.in-Parameter.next.at (stepped _ c.in-Parameter.is) c.requires.read.known in
     let rows : HasRow c.in-Parameter.p c.loop-n.row c.args.tags.now × HasRow c.in-Parameter.p c.loop-n.row c.args.starts.now × HasRow c.in-Parameter.p c.loop-n.row c.args.lengths.now = let t = turn in
     ((λ o. omega (arith, t.below o, c.requires.other_count_in_bounds)), (λ o. omega (arith, t.below o, c.requires.other_count_in_bounds_2)), (λ o. omega (arith, t.below o, c.requires.other_count_in_bounds_3))) in
-    let v = c.p-1.given in
     let (a, b, d) = rows in
     let e = c.list_other-row.ensures in
-    tabling_next c.loop-n.invariant c.loop-n-test.true v.0.0 v.0.1.0.at (stepped _ v.1) _ _ _ _ a b d e.0 e.1.0 e.1.1.0 e.1.1.1
+    tabling_next c.loop-n.invariant c.loop-n-test.true c.in-Parameter.p c.in-Parameter.next.at (stepped _ c.in-Parameter.is) _ _ _ _ a b d e.0 e.1.0 e.1.1.0 e.1.1.1
 
 pub returns-in-End : goal.returns-in-End
 returns-in-End c =

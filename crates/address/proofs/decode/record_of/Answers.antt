@@ -24,10 +24,10 @@ returns-in_default c =
     absurd (omega (arith, c.requires.known.routing))
 
 pub title_in-requires : goal.title_in-requires
-title_in-requires c = ((sound c.requires.known c.requires.whole).title, c.requires.known.within)
+title_in-requires c = record { held_in = (sound c.requires.known c.requires.whole).title; value_len_bound = c.requires.known.within }
 
 pub code_in-requires : goal.code_in-requires
-code_in-requires c = ((sound c.requires.known c.requires.whole).code, c.requires.known.within)
+code_in-requires c = record { held_in = (sound c.requires.known c.requires.whole).code; value_len_bound = c.requires.known.within }
 
 pub ssn_in-requires : goal.ssn_in-requires
 ssn_in-requires c = (sound c.requires.known c.requires.whole).ssn

@@ -20,39 +20,44 @@ use Rattle.address.proofs.encode.write.Goals as goal
 
 pub slice_bounds-write_title-count : goal.slice_bounds-write_title-count
 slice_bounds-write_title-count c =
+    let table : Table = record { tags = c.args.tags.now; starts = c.args.starts.now; lengths = c.args.lengths.now } in
     let long : length c.args.address.global_title.digits ≡ 255 = search rules in
-    let roomed : 4 ≤ length c.args.out.now = let r = room_inv c.args.tag c.args.address c.args.values.now ((record { tags = c.args.tags.now; starts = c.args.starts.now; lengths = c.args.lengths.now })) (omega (arith, long)) c.args.total c.requires.total_value c.args.out.now in
+    let roomed : 4 ≤ length c.args.out.now = let r = room_inv c.args.tag c.args.address c.args.values.now table (omega (arith, long)) c.args.total c.requires.total_value c.args.out.now in
     omega (arith, r.fits, c.requires.total_in_bounds) in
     let r = roomed in omega arith
 
 pub slice_bounds-write_title-start : goal.slice_bounds-write_title-start
 slice_bounds-write_title-start c =
+    let table : Table = record { tags = c.args.tags.now; starts = c.args.starts.now; lengths = c.args.lengths.now } in
     let long : length c.args.address.global_title.digits ≡ 255 = search rules in
-    let roomed : 4 ≤ length c.args.out.now = let r = room_inv c.args.tag c.args.address c.args.values.now ((record { tags = c.args.tags.now; starts = c.args.starts.now; lengths = c.args.lengths.now })) (omega (arith, long)) c.args.total c.requires.total_value c.args.out.now in
+    let roomed : 4 ≤ length c.args.out.now = let r = room_inv c.args.tag c.args.address c.args.values.now table (omega (arith, long)) c.args.total c.requires.total_value c.args.out.now in
     omega (arith, r.fits, c.requires.total_in_bounds) in
     let r = roomed in omega arith
 
 pub write_title-requires : goal.write_title-requires
 write_title-requires c =
+    let table : Table = record { tags = c.args.tags.now; starts = c.args.starts.now; lengths = c.args.lengths.now } in
     let long : length c.args.address.global_title.digits ≡ 255 = search rules in
-    (c.requires.digits_value, title_lent c.args.tag c.args.address c.args.values.now ((record { tags = c.args.tags.now; starts = c.args.starts.now; lengths = c.args.lengths.now })) (omega (arith, long)) c.args.total c.requires.total_value c.args.out.now c.requires.total_in_bounds)
+    record { digits_value = c.requires.digits_value; roomed = title_lent c.args.tag c.args.address c.args.values.now table (omega (arith, long)) c.args.total c.requires.total_value c.args.out.now c.requires.total_in_bounds }
 
 pub write_head-requires : goal.write_head-requires
 write_head-requires c =
+    let table : Table = record { tags = c.args.tags.now; starts = c.args.starts.now; lengths = c.args.lengths.now } in
     let long : length c.args.address.global_title.digits ≡ 255 = search rules in
     let answered : (r : Counted) → c.write_title.result ≡ r → record { answer = counted_of r; buffer = c.write_title.new.out }
     ≡ deliver (mapped run_octets ((given_title c.args.address.has_title c.args.address.global_title))) (mid_of 4 (length c.args.out.now - 4) c.args.out.now) = λ r e. ap (λ (r : Counted). record { answer = counted_of r; buffer = c.write_title.new.out }) (sym e) ∙ c.write_title.ensures in
-    let known : Known c.args.tag c.args.address c.args.values.now ((record { tags = c.args.tags.now; starts = c.args.starts.now; lengths = c.args.lengths.now })) c.args.total = room-written c.args.tag c.args.address c.args.values.now ((record { tags = c.args.tags.now; starts = c.args.starts.now; lengths = c.args.lengths.now })) (omega (arith, long)) c.args.total c.requires.total_value c.args.out.now c.requires.total_in_bounds (answered _ c.in-Count.is) in
+    let known : Known c.args.tag c.args.address c.args.values.now table c.args.total = room-written c.args.tag c.args.address c.args.values.now table (omega (arith, long)) c.args.total c.requires.total_value c.args.out.now c.requires.total_in_bounds (answered _ c.in-Count.is) in
     let in_place : Wrote c.args.out.now (take 4 c.args.out.now) c.args.out.now 4 known.titled c.in-Count.n c.write_title.new.out = let k = known in
     placed ((given_title c.args.address.has_title c.args.address.global_title)) k.titled c.args.out.now _ _ k.title (omega (arith, k.size, c.requires.total_in_bounds)) (answered _ c.in-Count.is) in
     let k = known in omega (arith, in_place.begun.same, k.size, c.requires.total_in_bounds)
 
 pub overflow_add-a : goal.overflow_add-a
 overflow_add-a c =
+    let table : Table = record { tags = c.args.tags.now; starts = c.args.starts.now; lengths = c.args.lengths.now } in
     let long : length c.args.address.global_title.digits ≡ 255 = search rules in
     let answered : (r : Counted) → c.write_title.result ≡ r → record { answer = counted_of r; buffer = c.write_title.new.out }
     ≡ deliver (mapped run_octets ((given_title c.args.address.has_title c.args.address.global_title))) (mid_of 4 (length c.args.out.now - 4) c.args.out.now) = λ r e. ap (λ (r : Counted). record { answer = counted_of r; buffer = c.write_title.new.out }) (sym e) ∙ c.write_title.ensures in
-    let known : Known c.args.tag c.args.address c.args.values.now ((record { tags = c.args.tags.now; starts = c.args.starts.now; lengths = c.args.lengths.now })) c.args.total = room-written c.args.tag c.args.address c.args.values.now ((record { tags = c.args.tags.now; starts = c.args.starts.now; lengths = c.args.lengths.now })) (omega (arith, long)) c.args.total c.requires.total_value c.args.out.now c.requires.total_in_bounds (answered _ c.in-Count.is) in
+    let known : Known c.args.tag c.args.address c.args.values.now table c.args.total = room-written c.args.tag c.args.address c.args.values.now table (omega (arith, long)) c.args.total c.requires.total_value c.args.out.now c.requires.total_in_bounds (answered _ c.in-Count.is) in
     let in_place : Wrote c.args.out.now (take 4 c.args.out.now) c.args.out.now 4 known.titled c.in-Count.n c.write_title.new.out = let k = known in
     placed ((given_title c.args.address.has_title c.args.address.global_title)) k.titled c.args.out.now _ _ k.title (omega (arith, k.size, c.requires.total_in_bounds)) (answered _ c.in-Count.is) in
     let titled : Headed c.args.out.now (given_head c.args.address) known.titled c.in-Count.n c.write_head.new.out = let k = known in
@@ -61,10 +66,11 @@ overflow_add-a c =
 
 pub slice_bounds-write_four-count : goal.slice_bounds-write_four-count
 slice_bounds-write_four-count c =
+    let table : Table = record { tags = c.args.tags.now; starts = c.args.starts.now; lengths = c.args.lengths.now } in
     let long : length c.args.address.global_title.digits ≡ 255 = search rules in
     let answered : (r : Counted) → c.write_title.result ≡ r → record { answer = counted_of r; buffer = c.write_title.new.out }
     ≡ deliver (mapped run_octets ((given_title c.args.address.has_title c.args.address.global_title))) (mid_of 4 (length c.args.out.now - 4) c.args.out.now) = λ r e. ap (λ (r : Counted). record { answer = counted_of r; buffer = c.write_title.new.out }) (sym e) ∙ c.write_title.ensures in
-    let known : Known c.args.tag c.args.address c.args.values.now ((record { tags = c.args.tags.now; starts = c.args.starts.now; lengths = c.args.lengths.now })) c.args.total = room-written c.args.tag c.args.address c.args.values.now ((record { tags = c.args.tags.now; starts = c.args.starts.now; lengths = c.args.lengths.now })) (omega (arith, long)) c.args.total c.requires.total_value c.args.out.now c.requires.total_in_bounds (answered _ c.in-Count.is) in
+    let known : Known c.args.tag c.args.address c.args.values.now table c.args.total = room-written c.args.tag c.args.address c.args.values.now table (omega (arith, long)) c.args.total c.requires.total_value c.args.out.now c.requires.total_in_bounds (answered _ c.in-Count.is) in
     let in_place : Wrote c.args.out.now (take 4 c.args.out.now) c.args.out.now 4 known.titled c.in-Count.n c.write_title.new.out = let k = known in
     placed ((given_title c.args.address.has_title c.args.address.global_title)) k.titled c.args.out.now _ _ k.title (omega (arith, k.size, c.requires.total_in_bounds)) (answered _ c.in-Count.is) in
     let titled : Headed c.args.out.now (given_head c.args.address) known.titled c.in-Count.n c.write_head.new.out = let k = known in
@@ -73,10 +79,11 @@ slice_bounds-write_four-count c =
 
 pub slice_bounds-write_four-start : goal.slice_bounds-write_four-start
 slice_bounds-write_four-start c =
+    let table : Table = record { tags = c.args.tags.now; starts = c.args.starts.now; lengths = c.args.lengths.now } in
     let long : length c.args.address.global_title.digits ≡ 255 = search rules in
     let answered : (r : Counted) → c.write_title.result ≡ r → record { answer = counted_of r; buffer = c.write_title.new.out }
     ≡ deliver (mapped run_octets ((given_title c.args.address.has_title c.args.address.global_title))) (mid_of 4 (length c.args.out.now - 4) c.args.out.now) = λ r e. ap (λ (r : Counted). record { answer = counted_of r; buffer = c.write_title.new.out }) (sym e) ∙ c.write_title.ensures in
-    let known : Known c.args.tag c.args.address c.args.values.now ((record { tags = c.args.tags.now; starts = c.args.starts.now; lengths = c.args.lengths.now })) c.args.total = room-written c.args.tag c.args.address c.args.values.now ((record { tags = c.args.tags.now; starts = c.args.starts.now; lengths = c.args.lengths.now })) (omega (arith, long)) c.args.total c.requires.total_value c.args.out.now c.requires.total_in_bounds (answered _ c.in-Count.is) in
+    let known : Known c.args.tag c.args.address c.args.values.now table c.args.total = room-written c.args.tag c.args.address c.args.values.now table (omega (arith, long)) c.args.total c.requires.total_value c.args.out.now c.requires.total_in_bounds (answered _ c.in-Count.is) in
     let in_place : Wrote c.args.out.now (take 4 c.args.out.now) c.args.out.now 4 known.titled c.in-Count.n c.write_title.new.out = let k = known in
     placed ((given_title c.args.address.has_title c.args.address.global_title)) k.titled c.args.out.now _ _ k.title (omega (arith, k.size, c.requires.total_in_bounds)) (answered _ c.in-Count.is) in
     let titled : Headed c.args.out.now (given_head c.args.address) known.titled c.in-Count.n c.write_head.new.out = let k = known in
@@ -85,10 +92,11 @@ slice_bounds-write_four-start c =
 
 pub write_four-requires : goal.write_four-requires
 write_four-requires c =
+    let table : Table = record { tags = c.args.tags.now; starts = c.args.starts.now; lengths = c.args.lengths.now } in
     let long : length c.args.address.global_title.digits ≡ 255 = search rules in
     let answered : (r : Counted) → c.write_title.result ≡ r → record { answer = counted_of r; buffer = c.write_title.new.out }
     ≡ deliver (mapped run_octets ((given_title c.args.address.has_title c.args.address.global_title))) (mid_of 4 (length c.args.out.now - 4) c.args.out.now) = λ r e. ap (λ (r : Counted). record { answer = counted_of r; buffer = c.write_title.new.out }) (sym e) ∙ c.write_title.ensures in
-    let known : Known c.args.tag c.args.address c.args.values.now ((record { tags = c.args.tags.now; starts = c.args.starts.now; lengths = c.args.lengths.now })) c.args.total = room-written c.args.tag c.args.address c.args.values.now ((record { tags = c.args.tags.now; starts = c.args.starts.now; lengths = c.args.lengths.now })) (omega (arith, long)) c.args.total c.requires.total_value c.args.out.now c.requires.total_in_bounds (answered _ c.in-Count.is) in
+    let known : Known c.args.tag c.args.address c.args.values.now table c.args.total = room-written c.args.tag c.args.address c.args.values.now table (omega (arith, long)) c.args.total c.requires.total_value c.args.out.now c.requires.total_in_bounds (answered _ c.in-Count.is) in
     let in_place : Wrote c.args.out.now (take 4 c.args.out.now) c.args.out.now 4 known.titled c.in-Count.n c.write_title.new.out = let k = known in
     placed ((given_title c.args.address.has_title c.args.address.global_title)) k.titled c.args.out.now _ _ k.title (omega (arith, k.size, c.requires.total_in_bounds)) (answered _ c.in-Count.is) in
     let titled : Headed c.args.out.now (given_head c.args.address) known.titled c.in-Count.n c.write_head.new.out = let k = known in
@@ -98,10 +106,11 @@ write_four-requires c =
 
 pub overflow_add-b : goal.overflow_add-b
 overflow_add-b c =
+    let table : Table = record { tags = c.args.tags.now; starts = c.args.starts.now; lengths = c.args.lengths.now } in
     let long : length c.args.address.global_title.digits ≡ 255 = search rules in
     let answered : (r : Counted) → c.write_title.result ≡ r → record { answer = counted_of r; buffer = c.write_title.new.out }
     ≡ deliver (mapped run_octets ((given_title c.args.address.has_title c.args.address.global_title))) (mid_of 4 (length c.args.out.now - 4) c.args.out.now) = λ r e. ap (λ (r : Counted). record { answer = counted_of r; buffer = c.write_title.new.out }) (sym e) ∙ c.write_title.ensures in
-    let known : Known c.args.tag c.args.address c.args.values.now ((record { tags = c.args.tags.now; starts = c.args.starts.now; lengths = c.args.lengths.now })) c.args.total = room-written c.args.tag c.args.address c.args.values.now ((record { tags = c.args.tags.now; starts = c.args.starts.now; lengths = c.args.lengths.now })) (omega (arith, long)) c.args.total c.requires.total_value c.args.out.now c.requires.total_in_bounds (answered _ c.in-Count.is) in
+    let known : Known c.args.tag c.args.address c.args.values.now table c.args.total = room-written c.args.tag c.args.address c.args.values.now table (omega (arith, long)) c.args.total c.requires.total_value c.args.out.now c.requires.total_in_bounds (answered _ c.in-Count.is) in
     let in_place : Wrote c.args.out.now (take 4 c.args.out.now) c.args.out.now 4 known.titled c.in-Count.n c.write_title.new.out = let k = known in
     placed ((given_title c.args.address.has_title c.args.address.global_title)) k.titled c.args.out.now _ _ k.title (omega (arith, k.size, c.requires.total_in_bounds)) (answered _ c.in-Count.is) in
     let titled : Headed c.args.out.now (given_head c.args.address) known.titled c.in-Count.n c.write_head.new.out = let k = known in
@@ -115,10 +124,11 @@ overflow_add-b c =
 
 pub slice_bounds-write_four-count-in-Count : goal.slice_bounds-write_four-count-in-Count
 slice_bounds-write_four-count-in-Count c =
+    let table : Table = record { tags = c.args.tags.now; starts = c.args.starts.now; lengths = c.args.lengths.now } in
     let long : length c.args.address.global_title.digits ≡ 255 = search rules in
     let answered : (r : Counted) → c.write_title.result ≡ r → record { answer = counted_of r; buffer = c.write_title.new.out }
     ≡ deliver (mapped run_octets ((given_title c.args.address.has_title c.args.address.global_title))) (mid_of 4 (length c.args.out.now - 4) c.args.out.now) = λ r e. ap (λ (r : Counted). record { answer = counted_of r; buffer = c.write_title.new.out }) (sym e) ∙ c.write_title.ensures in
-    let known : Known c.args.tag c.args.address c.args.values.now ((record { tags = c.args.tags.now; starts = c.args.starts.now; lengths = c.args.lengths.now })) c.args.total = room-written c.args.tag c.args.address c.args.values.now ((record { tags = c.args.tags.now; starts = c.args.starts.now; lengths = c.args.lengths.now })) (omega (arith, long)) c.args.total c.requires.total_value c.args.out.now c.requires.total_in_bounds (answered _ c.in-Count.is) in
+    let known : Known c.args.tag c.args.address c.args.values.now table c.args.total = room-written c.args.tag c.args.address c.args.values.now table (omega (arith, long)) c.args.total c.requires.total_value c.args.out.now c.requires.total_in_bounds (answered _ c.in-Count.is) in
     let in_place : Wrote c.args.out.now (take 4 c.args.out.now) c.args.out.now 4 known.titled c.in-Count.n c.write_title.new.out = let k = known in
     placed ((given_title c.args.address.has_title c.args.address.global_title)) k.titled c.args.out.now _ _ k.title (omega (arith, k.size, c.requires.total_in_bounds)) (answered _ c.in-Count.is) in
     let titled : Headed c.args.out.now (given_head c.args.address) known.titled c.in-Count.n c.write_head.new.out = let k = known in
@@ -132,10 +142,11 @@ slice_bounds-write_four-count-in-Count c =
 
 pub slice_bounds-write_four-start-in-Count : goal.slice_bounds-write_four-start-in-Count
 slice_bounds-write_four-start-in-Count c =
+    let table : Table = record { tags = c.args.tags.now; starts = c.args.starts.now; lengths = c.args.lengths.now } in
     let long : length c.args.address.global_title.digits ≡ 255 = search rules in
     let answered : (r : Counted) → c.write_title.result ≡ r → record { answer = counted_of r; buffer = c.write_title.new.out }
     ≡ deliver (mapped run_octets ((given_title c.args.address.has_title c.args.address.global_title))) (mid_of 4 (length c.args.out.now - 4) c.args.out.now) = λ r e. ap (λ (r : Counted). record { answer = counted_of r; buffer = c.write_title.new.out }) (sym e) ∙ c.write_title.ensures in
-    let known : Known c.args.tag c.args.address c.args.values.now ((record { tags = c.args.tags.now; starts = c.args.starts.now; lengths = c.args.lengths.now })) c.args.total = room-written c.args.tag c.args.address c.args.values.now ((record { tags = c.args.tags.now; starts = c.args.starts.now; lengths = c.args.lengths.now })) (omega (arith, long)) c.args.total c.requires.total_value c.args.out.now c.requires.total_in_bounds (answered _ c.in-Count.is) in
+    let known : Known c.args.tag c.args.address c.args.values.now table c.args.total = room-written c.args.tag c.args.address c.args.values.now table (omega (arith, long)) c.args.total c.requires.total_value c.args.out.now c.requires.total_in_bounds (answered _ c.in-Count.is) in
     let in_place : Wrote c.args.out.now (take 4 c.args.out.now) c.args.out.now 4 known.titled c.in-Count.n c.write_title.new.out = let k = known in
     placed ((given_title c.args.address.has_title c.args.address.global_title)) k.titled c.args.out.now _ _ k.title (omega (arith, k.size, c.requires.total_in_bounds)) (answered _ c.in-Count.is) in
     let titled : Headed c.args.out.now (given_head c.args.address) known.titled c.in-Count.n c.write_head.new.out = let k = known in
@@ -149,10 +160,11 @@ slice_bounds-write_four-start-in-Count c =
 
 pub write_four-requires-in-Count : goal.write_four-requires-in-Count
 write_four-requires-in-Count c =
+    let table : Table = record { tags = c.args.tags.now; starts = c.args.starts.now; lengths = c.args.lengths.now } in
     let long : length c.args.address.global_title.digits ≡ 255 = search rules in
     let answered : (r : Counted) → c.write_title.result ≡ r → record { answer = counted_of r; buffer = c.write_title.new.out }
     ≡ deliver (mapped run_octets ((given_title c.args.address.has_title c.args.address.global_title))) (mid_of 4 (length c.args.out.now - 4) c.args.out.now) = λ r e. ap (λ (r : Counted). record { answer = counted_of r; buffer = c.write_title.new.out }) (sym e) ∙ c.write_title.ensures in
-    let known : Known c.args.tag c.args.address c.args.values.now ((record { tags = c.args.tags.now; starts = c.args.starts.now; lengths = c.args.lengths.now })) c.args.total = room-written c.args.tag c.args.address c.args.values.now ((record { tags = c.args.tags.now; starts = c.args.starts.now; lengths = c.args.lengths.now })) (omega (arith, long)) c.args.total c.requires.total_value c.args.out.now c.requires.total_in_bounds (answered _ c.in-Count.is) in
+    let known : Known c.args.tag c.args.address c.args.values.now table c.args.total = room-written c.args.tag c.args.address c.args.values.now table (omega (arith, long)) c.args.total c.requires.total_value c.args.out.now c.requires.total_in_bounds (answered _ c.in-Count.is) in
     let in_place : Wrote c.args.out.now (take 4 c.args.out.now) c.args.out.now 4 known.titled c.in-Count.n c.write_title.new.out = let k = known in
     placed ((given_title c.args.address.has_title c.args.address.global_title)) k.titled c.args.out.now _ _ k.title (omega (arith, k.size, c.requires.total_in_bounds)) (answered _ c.in-Count.is) in
     let titled : Headed c.args.out.now (given_head c.args.address) known.titled c.in-Count.n c.write_head.new.out = let k = known in
@@ -167,10 +179,11 @@ write_four-requires-in-Count c =
 
 pub overflow_add-c : goal.overflow_add-c
 overflow_add-c c =
+    let table : Table = record { tags = c.args.tags.now; starts = c.args.starts.now; lengths = c.args.lengths.now } in
     let long : length c.args.address.global_title.digits ≡ 255 = search rules in
     let answered : (r : Counted) → c.write_title.result ≡ r → record { answer = counted_of r; buffer = c.write_title.new.out }
     ≡ deliver (mapped run_octets ((given_title c.args.address.has_title c.args.address.global_title))) (mid_of 4 (length c.args.out.now - 4) c.args.out.now) = λ r e. ap (λ (r : Counted). record { answer = counted_of r; buffer = c.write_title.new.out }) (sym e) ∙ c.write_title.ensures in
-    let known : Known c.args.tag c.args.address c.args.values.now ((record { tags = c.args.tags.now; starts = c.args.starts.now; lengths = c.args.lengths.now })) c.args.total = room-written c.args.tag c.args.address c.args.values.now ((record { tags = c.args.tags.now; starts = c.args.starts.now; lengths = c.args.lengths.now })) (omega (arith, long)) c.args.total c.requires.total_value c.args.out.now c.requires.total_in_bounds (answered _ c.in-Count.is) in
+    let known : Known c.args.tag c.args.address c.args.values.now table c.args.total = room-written c.args.tag c.args.address c.args.values.now table (omega (arith, long)) c.args.total c.requires.total_value c.args.out.now c.requires.total_in_bounds (answered _ c.in-Count.is) in
     let in_place : Wrote c.args.out.now (take 4 c.args.out.now) c.args.out.now 4 known.titled c.in-Count.n c.write_title.new.out = let k = known in
     placed ((given_title c.args.address.has_title c.args.address.global_title)) k.titled c.args.out.now _ _ k.title (omega (arith, k.size, c.requires.total_in_bounds)) (answered _ c.in-Count.is) in
     let titled : Headed c.args.out.now (given_head c.args.address) known.titled c.in-Count.n c.write_head.new.out = let k = known in
@@ -191,10 +204,11 @@ overflow_add-c c =
 
 pub slice_bounds-encode_parameters-count : goal.slice_bounds-encode_parameters-count
 slice_bounds-encode_parameters-count c =
+    let table : Table = record { tags = c.args.tags.now; starts = c.args.starts.now; lengths = c.args.lengths.now } in
     let long : length c.args.address.global_title.digits ≡ 255 = search rules in
     let answered : (r : Counted) → c.write_title.result ≡ r → record { answer = counted_of r; buffer = c.write_title.new.out }
     ≡ deliver (mapped run_octets ((given_title c.args.address.has_title c.args.address.global_title))) (mid_of 4 (length c.args.out.now - 4) c.args.out.now) = λ r e. ap (λ (r : Counted). record { answer = counted_of r; buffer = c.write_title.new.out }) (sym e) ∙ c.write_title.ensures in
-    let known : Known c.args.tag c.args.address c.args.values.now ((record { tags = c.args.tags.now; starts = c.args.starts.now; lengths = c.args.lengths.now })) c.args.total = room-written c.args.tag c.args.address c.args.values.now ((record { tags = c.args.tags.now; starts = c.args.starts.now; lengths = c.args.lengths.now })) (omega (arith, long)) c.args.total c.requires.total_value c.args.out.now c.requires.total_in_bounds (answered _ c.in-Count.is) in
+    let known : Known c.args.tag c.args.address c.args.values.now table c.args.total = room-written c.args.tag c.args.address c.args.values.now table (omega (arith, long)) c.args.total c.requires.total_value c.args.out.now c.requires.total_in_bounds (answered _ c.in-Count.is) in
     let in_place : Wrote c.args.out.now (take 4 c.args.out.now) c.args.out.now 4 known.titled c.in-Count.n c.write_title.new.out = let k = known in
     placed ((given_title c.args.address.has_title c.args.address.global_title)) k.titled c.args.out.now _ _ k.title (omega (arith, k.size, c.requires.total_in_bounds)) (answered _ c.in-Count.is) in
     let titled : Headed c.args.out.now (given_head c.args.address) known.titled c.in-Count.n c.write_head.new.out = let k = known in
@@ -215,10 +229,11 @@ slice_bounds-encode_parameters-count c =
 
 pub slice_bounds-encode_parameters-start : goal.slice_bounds-encode_parameters-start
 slice_bounds-encode_parameters-start c =
+    let table : Table = record { tags = c.args.tags.now; starts = c.args.starts.now; lengths = c.args.lengths.now } in
     let long : length c.args.address.global_title.digits ≡ 255 = search rules in
     let answered : (r : Counted) → c.write_title.result ≡ r → record { answer = counted_of r; buffer = c.write_title.new.out }
     ≡ deliver (mapped run_octets ((given_title c.args.address.has_title c.args.address.global_title))) (mid_of 4 (length c.args.out.now - 4) c.args.out.now) = λ r e. ap (λ (r : Counted). record { answer = counted_of r; buffer = c.write_title.new.out }) (sym e) ∙ c.write_title.ensures in
-    let known : Known c.args.tag c.args.address c.args.values.now ((record { tags = c.args.tags.now; starts = c.args.starts.now; lengths = c.args.lengths.now })) c.args.total = room-written c.args.tag c.args.address c.args.values.now ((record { tags = c.args.tags.now; starts = c.args.starts.now; lengths = c.args.lengths.now })) (omega (arith, long)) c.args.total c.requires.total_value c.args.out.now c.requires.total_in_bounds (answered _ c.in-Count.is) in
+    let known : Known c.args.tag c.args.address c.args.values.now table c.args.total = room-written c.args.tag c.args.address c.args.values.now table (omega (arith, long)) c.args.total c.requires.total_value c.args.out.now c.requires.total_in_bounds (answered _ c.in-Count.is) in
     let in_place : Wrote c.args.out.now (take 4 c.args.out.now) c.args.out.now 4 known.titled c.in-Count.n c.write_title.new.out = let k = known in
     placed ((given_title c.args.address.has_title c.args.address.global_title)) k.titled c.args.out.now _ _ k.title (omega (arith, k.size, c.requires.total_in_bounds)) (answered _ c.in-Count.is) in
     let titled : Headed c.args.out.now (given_head c.args.address) known.titled c.in-Count.n c.write_head.new.out = let k = known in
@@ -239,17 +254,19 @@ slice_bounds-encode_parameters-start c =
 
 pub returns-in-Refused : goal.returns-in-Refused
 returns-in-Refused c =
+    let table : Table = record { tags = c.args.tags.now; starts = c.args.starts.now; lengths = c.args.lengths.now } in
     let long : length c.args.address.global_title.digits ≡ 255 = search rules in
     let answered : (r : Counted) → c.write_title.result ≡ r → record { answer = counted_of r; buffer = c.write_title.new.out }
     ≡ deliver (mapped run_octets ((given_title c.args.address.has_title c.args.address.global_title))) (mid_of 4 (length c.args.out.now - 4) c.args.out.now) = λ r e. ap (λ (r : Counted). record { answer = counted_of r; buffer = c.write_title.new.out }) (sym e) ∙ c.write_title.ensures in
-    room_declined c.args.tag c.args.address c.args.values.now ((record { tags = c.args.tags.now; starts = c.args.starts.now; lengths = c.args.lengths.now })) (omega (arith, long)) c.args.total c.requires.total_value c.args.out.now c.requires.total_in_bounds _ (answered _ c.in-Refused.is)
+    room_declined c.args.tag c.args.address c.args.values.now table (omega (arith, long)) c.args.total c.requires.total_value c.args.out.now c.requires.total_in_bounds _ (answered _ c.in-Refused.is)
 
 pub returns-in-Count : goal.returns-in-Count
 returns-in-Count c =
+    let table : Table = record { tags = c.args.tags.now; starts = c.args.starts.now; lengths = c.args.lengths.now } in
     let long : length c.args.address.global_title.digits ≡ 255 = search rules in
     let answered : (r : Counted) → c.write_title.result ≡ r → record { answer = counted_of r; buffer = c.write_title.new.out }
     ≡ deliver (mapped run_octets ((given_title c.args.address.has_title c.args.address.global_title))) (mid_of 4 (length c.args.out.now - 4) c.args.out.now) = λ r e. ap (λ (r : Counted). record { answer = counted_of r; buffer = c.write_title.new.out }) (sym e) ∙ c.write_title.ensures in
-    let known : Known c.args.tag c.args.address c.args.values.now ((record { tags = c.args.tags.now; starts = c.args.starts.now; lengths = c.args.lengths.now })) c.args.total = room-written c.args.tag c.args.address c.args.values.now ((record { tags = c.args.tags.now; starts = c.args.starts.now; lengths = c.args.lengths.now })) (omega (arith, long)) c.args.total c.requires.total_value c.args.out.now c.requires.total_in_bounds (answered _ c.in-Count.is) in
+    let known : Known c.args.tag c.args.address c.args.values.now table c.args.total = room-written c.args.tag c.args.address c.args.values.now table (omega (arith, long)) c.args.total c.requires.total_value c.args.out.now c.requires.total_in_bounds (answered _ c.in-Count.is) in
     let in_place : Wrote c.args.out.now (take 4 c.args.out.now) c.args.out.now 4 known.titled c.in-Count.n c.write_title.new.out = let k = known in
     placed ((given_title c.args.address.has_title c.args.address.global_title)) k.titled c.args.out.now _ _ k.title (omega (arith, k.size, c.requires.total_in_bounds)) (answered _ c.in-Count.is) in
     let titled : Headed c.args.out.now (given_head c.args.address) known.titled c.in-Count.n c.write_head.new.out = let k = known in

@@ -8,8 +8,11 @@ use Rattle.address.proofs.encode.write_four.Goals as goal
 
 pub returns-then-there : goal.returns-then-there
 returns-then-there c =
+    let given : Param = record { tag = c.args.tag; value = c.args.t3 } in
     let long : length c.args.t3 ≡ 4 = search rules in
-    four-put c.args.there ((record { tag = c.args.tag; value = c.args.t3 })) c.args.out.now c.if-there.true long c.requires c.encode.ensures
+    four-put c.args.there given c.args.out.now c.if-there.true long c.requires c.encode.ensures
 
 pub returns : goal.returns
-returns c = four_absent c.args.there ((record { tag = c.args.tag; value = c.args.t3 })) c.args.out.now c.if-there.false
+returns c =
+    let given : Param = record { tag = c.args.tag; value = c.args.t3 } in
+    four_absent c.args.there given c.args.out.now c.if-there.false

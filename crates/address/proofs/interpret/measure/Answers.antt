@@ -30,7 +30,7 @@ eight true n e = omega arith
 eight false n e = omega arith
 
 pub title_length-requires : goal.title_length-requires
-title_length-requires c = ((sound c.requires.known c.requires.whole).title, c.requires.known.within)
+title_length-requires c = record { held_in = (sound c.requires.known c.requires.whole).title; value_len_bound = c.requires.known.within }
 
 pub overflow_add-length : goal.overflow_add-length
 overflow_add-length c =

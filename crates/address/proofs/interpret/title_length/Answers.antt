@@ -21,7 +21,7 @@ slice_bounds-measure_title-end c = let h = c.requires.held_in (lt-ltb 0 _ c.if-k
 pub measure_title-requires : goal.measure_title-requires
 measure_title-requires c = let h = c.requires.held_in (lt-ltb 0 _ c.if-kept-gt0.true) in
     let l = part_length c.args.kept.start c.args.kept.length c.args.value.now h.0 in
-    (rw l h.1, rw l (omega arith))
+    record { in_bounds = rw l h.1; value_len_bound = rw l (omega arith) }
 
 pub returns-then-kept-gt0 : goal.returns-then-kept-gt0
 returns-then-kept-gt0 c = title_there (digits_by c.args.checked) c.args.value.now c.args.kept _ (lt-ltb 0 _ c.if-kept-gt0.true)

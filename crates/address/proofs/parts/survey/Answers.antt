@@ -22,8 +22,7 @@ note-parts-requires c =
     let stepped : (s : Step) → c.step.result ≡ s → step_at c.args.value.now c.loop-n.c.at ≡ step_of s = λ s e. let xs = c.args.value.now in
     let at = c.loop-n.c.at in
     sym (bounded-within xs (step_at xs at) c.if-value-gt1048576.false) ∙ sym c.step.ensures ∙ ap step_of e in
-    let v = c.p-1.given in
-    let r = surveying_room c.loop-n.invariant v.0.0 v.0.1.0.at c.if-value-gt1048576.false c.loop-n-test.true (stepped _ v.1) in
+    let r = surveying_room c.loop-n.invariant c.in-Parameter.p c.in-Parameter.next.at c.if-value-gt1048576.false c.loop-n-test.true (stepped _ c.in-Parameter.is) in
     (r.count, (r.size, r.value))
 
 pub loop-n-preserved : goal.loop-n-preserved
@@ -31,8 +30,7 @@ loop-n-preserved c =
     let stepped : (s : Step) → c.step.result ≡ s → step_at c.args.value.now c.loop-n.c.at ≡ step_of s = λ s e. let xs = c.args.value.now in
     let at = c.loop-n.c.at in
     sym (bounded-within xs (step_at xs at) c.if-value-gt1048576.false) ∙ sym c.step.ensures ∙ ap step_of e in
-    let v = c.p-1.given in
-    surveying_next c.loop-n.invariant c.loop-n-test.true v.0.0 v.0.1.0.at _ (stepped _ v.1) c.note-parts.ensures
+    surveying_next c.loop-n.invariant c.loop-n-test.true c.in-Parameter.p c.in-Parameter.next.at _ (stepped _ c.in-Parameter.is) c.note-parts.ensures
 
 pub returns-in-End : goal.returns-in-End
 returns-in-End c =

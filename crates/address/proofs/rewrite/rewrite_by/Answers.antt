@@ -16,7 +16,7 @@ returns-then-out-total c = let plan = subst (WrittenAs (digits_by c.args.checked
     deliver_too_long _ _ c.args.out.now (plan_length (alike c.args.checked) c.args.tag plan) c.if-out-total.true
 
 pub write-requires : goal.write-requires
-write-requires c = (as_read c.args.checked (subst (WrittenAs (digits_by c.args.checked) c.args.tag c.args.value.now) c.in-Plan.is c.plan.ensures), c.if-out-total.false)
+write-requires c = record { plan = as_read c.args.checked (subst (WrittenAs (digits_by c.args.checked) c.args.tag c.args.value.now) c.in-Plan.is c.plan.ensures); total_in_bounds = c.if-out-total.false }
 
 pub returns-in-Refused : goal.returns-in-Refused
 returns-in-Refused c = deliver_refused _ _ c.args.out.now ∙ ap (λ (o : Outcome (List ℕ)). deliver o c.args.out.now) (sym (subst (WrittenAs (digits_by c.args.checked) c.args.tag c.args.value.now) c.in-Refused.is c.plan.ensures))

@@ -18,7 +18,7 @@ use Rattle.address.proofs.Delivering.{Wrote, ready_behind, wrote, planned-pieces
 use Rattle.address.proofs.rewrite.write.Goals as goal
 
 pub write_head-requires : goal.write_head-requires
-write_head-requires c = (c.requires.plan.read.known.long, omega (arith, planned-length c.requires.plan, c.requires.total_in_bounds))
+write_head-requires c = record { in_bounds = c.requires.plan.read.known.long; in_bounds_2 = omega (arith, planned-length c.requires.plan, c.requires.total_in_bounds) }
 
 pub slice_bounds-write_title-count : goal.slice_bounds-write_title-count
 slice_bounds-write_title-count c =
@@ -64,10 +64,7 @@ write_code-requires c =
     let titled : Wrote c.args.out.now (head_octets c.args.value.now) c.write_head.new.out 4 (((planned-pieces c.requires.plan).titled)) c.write_title-a.result c.write_title-a.new.out = let p = c.requires.plan in
     wrote 4 headed refl _ (((planned-pieces c.requires.plan).titled)) (planned-pieces p).title (omega (arith, planned-length p, c.requires.total_in_bounds)) _ _ c.write_title-a.ensures in
     let p = c.requires.plan in
-    let y = titled in (
-      (sound p.read.known p.read.whole).code,
-      ready_behind (4 + c.write_title-a.result) y.begun y.place _ (codes p) (code-params with_unknown (kept_code c.args.value.now c.args.parts.code)) (omega (arith, planned-length p, c.requires.total_in_bounds, y.count)),
-    )
+    let y = titled in record { held_in = (sound p.read.known p.read.whole).code; ready = ready_behind (4 + c.write_title-a.result) y.begun y.place _ (codes p) (code-params with_unknown (kept_code c.args.value.now c.args.parts.code)) (omega (arith, planned-length p, c.requires.total_in_bounds, y.count)) }
 
 pub overflow_add-b : goal.overflow_add-b
 overflow_add-b c =
@@ -117,10 +114,7 @@ write_ssn-requires c =
     (omega (arith, planned-length c.requires.plan, c.requires.total_in_bounds, y.count)) _ _ c.write_code.ensures in
     let p = c.requires.plan in
     let x = titled in
-    let y = coded in (
-      (sound p.read.known p.read.whole).ssn,
-      ready_behind (4 + c.write_title-a.result + c.write_code.result) y.begun y.place _ (subs p) (sub-params with_unknown (kept_sub c.args.value.now c.args.parts.ssn)) (omega (arith, planned-length p, c.requires.total_in_bounds, x.count, y.count)),
-    )
+    let y = coded in record { held_in = (sound p.read.known p.read.whole).ssn; ready = ready_behind (4 + c.write_title-a.result + c.write_code.result) y.begun y.place _ (subs p) (sub-params with_unknown (kept_sub c.args.value.now c.args.parts.ssn)) (omega (arith, planned-length p, c.requires.total_in_bounds, x.count, y.count)) }
 
 pub overflow_add-c : goal.overflow_add-c
 overflow_add-c c =
@@ -197,7 +191,7 @@ write_others-requires c =
     let l = lent_length ((let d = (let d = (let d = c.write_head.new.out in put_mid 4 (length d - 4) d c.write_title-a.new.out) in let at = 4 + c.write_title-a.result in put_mid at (length d - at) d c.write_code.new.out) in
     let at = 4 + c.write_title-a.result + c.write_code.result in
     put_mid at (length d - at) d c.write_ssn.new.out)) at in
-    (p.read.known, omega (arith, planned-others p, planned-length p, c.requires.total_in_bounds, titled.count, coded.count, subbed.count, subbed.begun.same))
+    record { walked = p.read.known; other_length_in_bounds = omega (arith, planned-others p, planned-length p, c.requires.total_in_bounds, titled.count, coded.count, subbed.count, subbed.begun.same) }
 
 pub returns-then-parts-gt0 : goal.returns-then-parts-gt0
 returns-then-parts-gt0 c =

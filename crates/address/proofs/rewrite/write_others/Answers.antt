@@ -21,8 +21,7 @@ slice_bounds-write_other-count c =
     let stepped : (s : Step) → c.step.result ≡ s → step_at c.args.value.now c.loop-n.c.at ≡ step_of s = λ s e. let xs = c.args.value.now in
     let at = c.loop-n.c.at in
     sym (bounded-within xs (step_at xs at) c.requires.walked.within) ∙ sym c.step.ensures ∙ ap step_of e in
-    let turn : Turn c.args.value.now c.loop-n.out c.in-Parameter.p c.loop-n.at = let v = c.p-1.given in
-    copying_turn c.requires.walked c.loop-n.invariant c.requires.other_length_in_bounds c.loop-n-test.true v.0.0 v.0.1.0.at (stepped _ v.1) in
+    let turn : Turn c.args.value.now c.loop-n.out c.in-Parameter.p c.loop-n.at = copying_turn c.requires.walked c.loop-n.invariant c.requires.other_length_in_bounds c.loop-n-test.true c.in-Parameter.p c.in-Parameter.next.at (stepped _ c.in-Parameter.is) in
     let t = turn in search rules
 
 pub slice_bounds-write_other-start : goal.slice_bounds-write_other-start
@@ -30,8 +29,7 @@ slice_bounds-write_other-start c =
     let stepped : (s : Step) → c.step.result ≡ s → step_at c.args.value.now c.loop-n.c.at ≡ step_of s = λ s e. let xs = c.args.value.now in
     let at = c.loop-n.c.at in
     sym (bounded-within xs (step_at xs at) c.requires.walked.within) ∙ sym c.step.ensures ∙ ap step_of e in
-    let turn : Turn c.args.value.now c.loop-n.out c.in-Parameter.p c.loop-n.at = let v = c.p-1.given in
-    copying_turn c.requires.walked c.loop-n.invariant c.requires.other_length_in_bounds c.loop-n-test.true v.0.0 v.0.1.0.at (stepped _ v.1) in
+    let turn : Turn c.args.value.now c.loop-n.out c.in-Parameter.p c.loop-n.at = copying_turn c.requires.walked c.loop-n.invariant c.requires.other_length_in_bounds c.loop-n-test.true c.in-Parameter.p c.in-Parameter.next.at (stepped _ c.in-Parameter.is) in
     let t = turn in search rules
 
 pub slice_bounds-write_other-end : goal.slice_bounds-write_other-end
@@ -39,8 +37,7 @@ slice_bounds-write_other-end c =
     let stepped : (s : Step) → c.step.result ≡ s → step_at c.args.value.now c.loop-n.c.at ≡ step_of s = λ s e. let xs = c.args.value.now in
     let at = c.loop-n.c.at in
     sym (bounded-within xs (step_at xs at) c.requires.walked.within) ∙ sym c.step.ensures ∙ ap step_of e in
-    let turn : Turn c.args.value.now c.loop-n.out c.in-Parameter.p c.loop-n.at = let v = c.p-1.given in
-    copying_turn c.requires.walked c.loop-n.invariant c.requires.other_length_in_bounds c.loop-n-test.true v.0.0 v.0.1.0.at (stepped _ v.1) in
+    let turn : Turn c.args.value.now c.loop-n.out c.in-Parameter.p c.loop-n.at = copying_turn c.requires.walked c.loop-n.invariant c.requires.other_length_in_bounds c.loop-n-test.true c.in-Parameter.p c.in-Parameter.next.at (stepped _ c.in-Parameter.is) in
     let t = turn in search rules
 
 pub write_other-at-requires : goal.write_other-at-requires
@@ -48,8 +45,7 @@ write_other-at-requires c =
     let stepped : (s : Step) → c.step.result ≡ s → step_at c.args.value.now c.loop-n.c.at ≡ step_of s = λ s e. let xs = c.args.value.now in
     let at = c.loop-n.c.at in
     sym (bounded-within xs (step_at xs at) c.requires.walked.within) ∙ sym c.step.ensures ∙ ap step_of e in
-    let turn : Turn c.args.value.now c.loop-n.out c.in-Parameter.p c.loop-n.at = let v = c.p-1.given in
-    copying_turn c.requires.walked c.loop-n.invariant c.requires.other_length_in_bounds c.loop-n-test.true v.0.0 v.0.1.0.at (stepped _ v.1) in
+    let turn : Turn c.args.value.now c.loop-n.out c.in-Parameter.p c.loop-n.at = copying_turn c.requires.walked c.loop-n.invariant c.requires.other_length_in_bounds c.loop-n-test.true c.in-Parameter.p c.in-Parameter.next.at (stepped _ c.in-Parameter.is) in
     let t = turn in
     let lent = lent_length c.loop-n.out c.loop-n.at in
     (t.inside, (t.small, omega (arith, t.room)))
@@ -59,8 +55,7 @@ overflow_add-at c =
     let stepped : (s : Step) → c.step.result ≡ s → step_at c.args.value.now c.loop-n.c.at ≡ step_of s = λ s e. let xs = c.args.value.now in
     let at = c.loop-n.c.at in
     sym (bounded-within xs (step_at xs at) c.requires.walked.within) ∙ sym c.step.ensures ∙ ap step_of e in
-    let again : Copying c.args.value.now c.args.out.now (put_mid c.loop-n.at (length c.loop-n.out - c.loop-n.at) c.loop-n.out c.write_other-at.new.out) (c.loop-n.n + 1) c.in-Parameter.next.at (c.loop-n.at + c.write_other-at.result) = let v = c.p-1.given in
-    copying_next c.requires.walked c.loop-n.invariant c.requires.other_length_in_bounds c.loop-n-test.true v.0.0 v.0.1.0.at (stepped _ v.1) _ _ _ c.write_other-at.ensures refl in
+    let again : Copying c.args.value.now c.args.out.now (put_mid c.loop-n.at (length c.loop-n.out - c.loop-n.at) c.loop-n.out c.write_other-at.new.out) (c.loop-n.n + 1) c.in-Parameter.next.at (c.loop-n.at + c.write_other-at.result) = copying_next c.requires.walked c.loop-n.invariant c.requires.other_length_in_bounds c.loop-n-test.true c.in-Parameter.p c.in-Parameter.next.at (stepped _ c.in-Parameter.is) _ _ _ c.write_other-at.ensures refl in
     let few = copying_few c.requires.walked again in
     omega arith
 
@@ -69,8 +64,7 @@ loop-n-preserved c =
     let stepped : (s : Step) → c.step.result ≡ s → step_at c.args.value.now c.loop-n.c.at ≡ step_of s = λ s e. let xs = c.args.value.now in
     let at = c.loop-n.c.at in
     sym (bounded-within xs (step_at xs at) c.requires.walked.within) ∙ sym c.step.ensures ∙ ap step_of e in
-    let again : Copying c.args.value.now c.args.out.now (put_mid c.loop-n.at (length c.loop-n.out - c.loop-n.at) c.loop-n.out c.write_other-at.new.out) (c.loop-n.n + 1) c.in-Parameter.next.at (c.loop-n.at + c.write_other-at.result) = let v = c.p-1.given in
-    copying_next c.requires.walked c.loop-n.invariant c.requires.other_length_in_bounds c.loop-n-test.true v.0.0 v.0.1.0.at (stepped _ v.1) _ _ _ c.write_other-at.ensures refl in
+    let again : Copying c.args.value.now c.args.out.now (put_mid c.loop-n.at (length c.loop-n.out - c.loop-n.at) c.loop-n.out c.write_other-at.new.out) (c.loop-n.n + 1) c.in-Parameter.next.at (c.loop-n.at + c.write_other-at.result) = copying_next c.requires.walked c.loop-n.invariant c.requires.other_length_in_bounds c.loop-n-test.true c.in-Parameter.p c.in-Parameter.next.at (stepped _ c.in-Parameter.is) _ _ _ c.write_other-at.ensures refl in
     again
 
 pub returns-in-End : goal.returns-in-End

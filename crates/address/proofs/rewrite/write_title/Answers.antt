@@ -15,7 +15,7 @@ slice_bounds-put_title-end c = let h = c.requires.held_in (lt-ltb 0 _ c.if-kept-
 pub put_title-requires : goal.put_title-requires
 put_title-requires c = let h = c.requires.held_in (lt-ltb 0 _ c.if-kept-gt0.true) in
     let l = part_length c.args.kept.start c.args.kept.length c.args.value.now h.0 in
-    (rw l h.1, title_ready c.args.value.now c.args.kept c.args.out.now (lt-ltb 0 _ c.if-kept-gt0.true) c.requires.ready)
+    record { in_bounds = rw l h.1; ready = title_ready c.args.value.now c.args.kept c.args.out.now (lt-ltb 0 _ c.if-kept-gt0.true) c.requires.ready }
 
 pub returns-then-kept-gt0 : goal.returns-then-kept-gt0
 returns-then-kept-gt0 c = title_put c.args.value.now c.args.kept c.args.out.now (lt-ltb 0 _ c.if-kept-gt0.true) c.put_title.ensures

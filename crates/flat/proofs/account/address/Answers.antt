@@ -17,13 +17,13 @@ fields-requires c =
     let answered : (r : Surveyed) → c.interpret.result ≡ r → surveyed_of r ≡ interpreted c.args.value.now = λ r e. sym (ap surveyed_of e) ∙ c.interpret.ensures in
     let read : (s : Parts) → c.interpret.result ≡ S.Parts s → Read c.args.value.now s = λ s e. let v = c.args.value.now in
     interpreted-read (octets-of v (λ i. (c.type_inv.value i).fits)) (answered _ e) in
-    (read _ c.in-Parts.is, (c.requires.value_bound, c.requires.at_bound))
+    record { read = read _ c.in-Parts.is; value_bound = c.requires.value_bound; at_bound = c.requires.at_bound }
 
 pub returns-in-Refused : goal.returns-in-Refused
 returns-in-Refused c =
     let answered : (r : Surveyed) → c.interpret.result ≡ r → surveyed_of r ≡ interpreted c.args.value.now = λ r e. sym (ap surveyed_of e) ∙ c.interpret.ensures in
     let e = interpreted_refused c.args.value.now _ _ (answered _ c.in-Refused.is) in
-    (omega arith, tried_refused c.args.at _ _ _ (account_refused c.args.base c.args.value.now _ _ (omega (arith, c.requires.value_bound)) e))
+    record { result_bound = omega arith; tried = tried_refused c.args.at _ _ _ (account_refused c.args.base c.args.value.now _ _ (omega (arith, c.requires.value_bound)) e) }
 
 pub returns-in-Parts : goal.returns-in-Parts
 returns-in-Parts c =
@@ -32,4 +32,4 @@ returns-in-Parts c =
     interpreted-read (octets-of v (λ i. (c.type_inv.value i).fits)) (answered _ e) in
     let r = read _ c.in-Parts.is in
     let x = c.fields.ensures in
-    (omega (arith, x.behind, parts_small c.args.base r), tried_done _ (account-read c.args.base r) x)
+    record { result_bound = omega (arith, x.behind, parts_small c.args.base r); tried = tried_done _ (account-read c.args.base r) x }

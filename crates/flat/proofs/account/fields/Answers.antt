@@ -41,7 +41,7 @@ others-requires c = let r = c.requires.read in
     let a = title_small v c.args.parts.title r.known.octets k.title in
     let b = code_small_lem v c.args.parts.code in
     let d = sub_small v c.args.parts.ssn in
-    (r, (c.requires.value_bound, omega (arith, c.requires.at_bound, c.put-a.ensures.behind, c.put-b.ensures.behind, c.put-c.ensures.behind, c.title-d.ensures.behind, c.code-e.ensures.behind, c.ssn-f.ensures.behind)))
+    record { read = r; value_bound = c.requires.value_bound; at_bound = omega (arith, c.requires.at_bound, c.put-a.ensures.behind, c.put-b.ensures.behind, c.put-c.ensures.behind, c.title-d.ensures.behind, c.code-e.ensures.behind, c.ssn-f.ensures.behind) }
 
 pub returns : goal.returns
 returns c = parts-stored c.args.base c.args.value.now c.args.parts c.requires.read.known.octets

@@ -26,8 +26,7 @@ other-to-requires c =
     let stepped : (s : Step) → c.step.result ≡ s → step_at c.args.value.now c.loop-n.c.at ≡ step_of s = λ s e. let xs = c.args.value.now in
     let at = c.loop-n.c.at in
     sym (bounded-within xs (step_at xs at) c.requires.read.known.within) ∙ sym c.step.ensures ∙ ap step_of e in
-    let v = c.place-1.given in
-    let f = step_inv c.args.value.now c.loop-n.c.at (stepped _ v.1) in
+    let f = step_inv c.args.value.now c.loop-n.c.at (stepped _ c.in-Parameter.is) in
     let few = listing_few c.loop-n.invariant in
     let four = c.put_four-to.ensures.behind in
     (omega (arith, f.inside, c.requires.value_bound), (omega (arith, f.inside, c.requires.value_bound), omega (arith, few, four, c.requires.at_bound, c.requires.value_bound, c.loop-n-test.true)))
@@ -37,8 +36,7 @@ loop-n-preserved c =
     let stepped : (s : Step) → c.step.result ≡ s → step_at c.args.value.now c.loop-n.c.at ≡ step_of s = λ s e. let xs = c.args.value.now in
     let at = c.loop-n.c.at in
     sym (bounded-within xs (step_at xs at) c.requires.read.known.within) ∙ sym c.step.ensures ∙ ap step_of e in
-    let v = c.place-1.given in
-    listing_more c.loop-n.invariant v.0.0 v.0.1.0.at c.loop-n-test.true (stepped _ v.1) c.other-to.ensures
+    listing_more c.loop-n.invariant c.in-Parameter.place c.in-Parameter.next.at c.loop-n-test.true (stepped _ c.in-Parameter.is) c.other-to.ensures
 
 pub shape_of-out-in-End : goal.shape_of-out-in-End
 shape_of-out-in-End c = emitted_same (emitted_more c.put_four-to.ensures c.loop-n.invariant.emitted)

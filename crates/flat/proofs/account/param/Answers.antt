@@ -28,26 +28,23 @@ address-requires c =
     let n = total in
     let l = part_length p.start p.length c.args.input.now c.requires.length_bound in
     let b = c.put_place-behind.ensures.behind in
-    (rw l (omega (arith, c.requires)), omega (arith, n, b))
+    record { value_bound = rw l (omega (arith, c.requires)); at_bound = omega (arith, n, b) }
 
 pub returns-then-is_address : goal.returns-then-is_address
 returns-then-is_address c = let p = c.args.place in
     let xs = c.args.input.now in
-    let m = c.sum-in-Count-1.given in
     let x = c.put_place-behind.ensures in
     let w = c.address in
     let y = subst (λ (v : List ℕ). Tried c.put_place-behind.new.out c.put_place-behind.result (address_account built_in p.start v) (counted_of w.result) w.new.1.1.1.0) (part_of p.start p.length xs) w.ensures.1 in
     let t = sym c.is_address.ensures ∙ c.if-is_address.true in
-    let sum : sum_of (counted_of c.args.sum) ≡ m.0.0 = ap (λ (a : Counted). sum_of (counted_of a)) m.1 in
-    (omega (arith, w.ensures.0, x.behind, sum), further_address xs c.args.out.now p _ _ (ap counted_of m.1) t x y)
+    let sum : sum_of (counted_of c.args.sum) ≡ c.in-Count.at = ap (λ (a : Counted). sum_of (counted_of a)) c.in-Count.is in
+    record { result_bound = omega (arith, w.ensures.0, x.behind, sum); further = further_address xs c.args.out.now p _ _ (ap counted_of c.in-Count.is) t x y }
 
 pub returns-in-Refused : goal.returns-in-Refused
-returns-in-Refused c = let m = c.sum-1.given in
-    (omega arith, further_refused c.args.input.now c.args.out.now c.args.place _ _ _ (ap counted_of m.1))
+returns-in-Refused c = record { result_bound = omega arith; further = further_refused c.args.input.now c.args.out.now c.args.place _ _ _ (ap counted_of c.in-Refused.is) }
 
 pub returns-else-is_address : goal.returns-else-is_address
-returns-else-is_address c = let m = c.sum-in-Count-1.given in
-    let x = c.put_place-behind.ensures in
+returns-else-is_address c = let x = c.put_place-behind.ensures in
     let t = sym c.is_address.ensures ∙ c.if-is_address.false in
-    let sum : sum_of (counted_of c.args.sum) ≡ m.0.0 = ap (λ (a : Counted). sum_of (counted_of a)) m.1 in
-    (omega (arith, x.behind, sum), further_raw c.args.input.now c.args.out.now c.args.place _ _ (ap counted_of m.1) t x)
+    let sum : sum_of (counted_of c.args.sum) ≡ c.in-Count.at = ap (λ (a : Counted). sum_of (counted_of a)) c.in-Count.is in
+    record { result_bound = omega (arith, x.behind, sum); further = further_raw c.args.input.now c.args.out.now c.args.place _ _ (ap counted_of c.in-Count.is) t x }

@@ -27,8 +27,7 @@ param-sum-requires c =
     let stepped : (s : Step) → c.step.result ≡ s → step_at c.args.input.now c.loop-n.c.at ≡ step_of s = λ s e. let xs = c.args.input.now in
     let at = c.loop-n.c.at in
     sym (bounded-within xs (step_at xs at) c.requires) ∙ sym c.step.ensures ∙ ap step_of e in
-    let v = c.place-1.given in
-    let f = step_inv c.args.input.now c.loop-n.c.at (stepped _ v.1) in
+    let f = step_inv c.args.input.now c.loop-n.c.at (stepped _ c.in-Parameter.is) in
     (c.requires, (f.inside, omega (arith, c.loop-n.invariant.small, c.requires, c.loop-n-test.true)))
 
 pub loop-n-preserved : goal.loop-n-preserved
@@ -36,9 +35,8 @@ loop-n-preserved c =
     let stepped : (s : Step) → c.step.result ≡ s → step_at c.args.input.now c.loop-n.c.at ≡ step_of s = λ s e. let xs = c.args.input.now in
     let at = c.loop-n.c.at in
     sym (bounded-within xs (step_at xs at) c.requires) ∙ sym c.step.ensures ∙ ap step_of e in
-    let v = c.place-1.given in
     let w = c.param-sum in
-    going_more c.loop-n.invariant v.0.0 v.0.1.0.at c.loop-n-test.true (stepped _ v.1) w.ensures.0 w.ensures.1 (search rules)
+    going_more c.loop-n.invariant c.in-Parameter.place c.in-Parameter.next.at c.loop-n-test.true (stepped _ c.in-Parameter.is) w.ensures.0 w.ensures.1 (search rules)
 
 pub shape_of-out-in-End : goal.shape_of-out-in-End
 shape_of-out-in-End c = c.loop-n.invariant.same

@@ -36,7 +36,7 @@ put_digits-requires c =
     let behind : c.put-e.result ≡ c.args.at + 5 = omega (arith, c.put-e.ensures.behind, c.put-d.ensures.behind, c.put-c.ensures.behind, c.put-b.ensures.behind, c.put-a.ensures.behind) in
     let v = c.args.value.now in
     let l : length (take (length v - 8) (drop 8 v)) ≡ length v - 8 = ap length (whole_part 8 v) ∙ length-drop 8 v in
-    (few, (omega (arith, c.smaller-n.ensures, l), omega (arith, c.requires, behind, c.put-f.ensures.behind)))
+    record { n_bound = few; n_bound_2 = omega (arith, c.smaller-n.ensures, l); at_bound = omega (arith, c.requires, behind, c.put-f.ensures.behind) }
 
 pub returns : goal.returns
 returns c = title_stored c.args.value.now c.smaller-n.result c.smaller-n.ensures

@@ -59,7 +59,7 @@ put_four-requires c =
     let k = known in
     let n = c.params-first.ensures.count k.walked k.places in
     let within = header_within _ _ read in
-    (omega (arith, n, k.few, within), omega arith)
+    record { n_bound = omega (arith, n, k.few, within); at_bound = omega arith }
 
 pub params-requires : goal.params-requires
 params-requires c =

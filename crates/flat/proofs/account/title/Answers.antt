@@ -21,7 +21,7 @@ put_title-requires c = let h = c.requires.held_in (lt-ltb 0 _ c.if-kept-gt0.true
     let v = c.args.value.now in
     let o = length-take (p.start + p.length - p.start) (drop p.start v) in
     let d = length-drop p.start v in
-    (rw (o, d) (omega (arith, h.0, h.1)), (rw (o, d) (omega (arith, c.requires.value_len_bound)), omega (arith, c.requires.at_bound)))
+    record { in_bounds = rw (o, d) (omega (arith, h.0, h.1)); value_len_bound = rw (o, d) (omega (arith, c.requires.value_len_bound)); at_bound = omega (arith, c.requires.at_bound) }
 
 pub returns-then-kept-gt0 : goal.returns-then-kept-gt0
 returns-then-kept-gt0 c = title_there c.args.value.now c.args.kept (lt-ltb 0 _ c.if-kept-gt0.true) c.put_title.ensures

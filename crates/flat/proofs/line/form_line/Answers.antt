@@ -27,7 +27,7 @@ returns-then-out-n c =
 pub put_form-requires : goal.put_form-requires
 put_form-requires c =
     let needed : 11 + c.decimal_length.result + c.words_length.result ≡ length (form_text c.args.form.now) = omega (arith, form_length c.args.form.now, c.decimal_length.ensures, c.words_length.ensures) in
-    (needed, c.if-out-n.false)
+    record { n_value = needed; n_in_bounds = c.if-out-n.false }
 
 pub returns : goal.returns
 returns c =

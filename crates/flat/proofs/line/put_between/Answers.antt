@@ -67,4 +67,4 @@ returns c =
     let whole : length c.args.head.now + length (decimal c.args.n) + length c.args.tail.now ≡ length (between c.args.head.now c.args.n c.args.tail.now) = between-length c.args.head.now c.args.n c.args.tail.now c.args.out.now c.requires in
     let at : c.copy-first.result + c.put_decimal.result ≡ length c.args.head.now + length (decimal c.args.n) = omega (arith, c.copy-first.ensures.count, c.put_decimal.ensures.value) in
     let b = after_tail c.args.head.now c.args.n c.args.tail.now c.args.out.now c.requires _ _ _ counted at c.copy.ensures.copied in
-    (omega (arith, at, c.copy.ensures.count, whole), b.holds)
+    record { value = omega (arith, at, c.copy.ensures.count, whole); out_after = b.holds }

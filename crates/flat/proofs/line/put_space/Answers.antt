@@ -17,4 +17,4 @@ pub bounds-out-0 : goal.bounds-out-0
 bounds-out-0 c = omega (arith, c.requires, ap length (space-between c.args.i (omega arith) c.if-i-ne0.false))
 
 pub returns : goal.returns
-returns c = (sym (ap length (space-between c.args.i (omega arith) c.if-i-ne0.false)), space-stored c.args.i c.args.out.now (omega arith) c.if-i-ne0.false c.requires)
+returns c = record { value = sym (ap length (space-between c.args.i (omega arith) c.if-i-ne0.false)); out_after = space-stored c.args.i c.args.out.now (omega arith) c.if-i-ne0.false c.requires }

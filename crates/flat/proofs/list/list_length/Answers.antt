@@ -17,8 +17,7 @@ loop-n-init c = summed_start c.args.list.now
 pub loop-n-preserved : goal.loop-n-preserved
 loop-n-preserved c =
     let stepped : (s : Step) → c.step.result ≡ s → flat_step c.args.list.now c.loop-n.c.at ≡ step_of s = λ s e. sym c.step.ensures ∙ ap step_of e in
-    let v = c.place-1.given in
-    summed_more c.loop-n.invariant c.loop-n-test.true v.0.0 v.0.1.0.at _ (stepped _ v.1) c.add-sum.ensures
+    summed_more c.loop-n.invariant c.loop-n-test.true c.in-Parameter.place c.in-Parameter.next.at _ (stepped _ c.in-Parameter.is) c.add-sum.ensures
 
 pub returns-in-End : goal.returns-in-End
 returns-in-End c =

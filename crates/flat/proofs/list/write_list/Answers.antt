@@ -20,8 +20,7 @@ slice_bounds-put-count c = omega (arith, c.loop-n.invariant.1.begun.fits, c.loop
 pub put-at-requires : goal.put-at-requires
 put-at-requires c =
     let stepped : (s : Step) → c.step.result ≡ s → flat_step c.args.list.now c.loop-n.c.at ≡ step_of s = λ s e. sym c.step.ensures ∙ ap step_of e in
-    let v = c.place-1.given in
-    let r = written_turn c.loop-n.invariant.0 c.loop-n.invariant.1 c.loop-n-test.true v.0.0 v.0.1.0.at (stepped _ v.1) in
+    let r = written_turn c.loop-n.invariant.0 c.loop-n.invariant.1 c.loop-n-test.true c.in-Parameter.place c.in-Parameter.next.at (stepped _ c.in-Parameter.is) in
     let o = length-take (length c.loop-n.out - c.loop-n.at) (drop c.loop-n.at c.loop-n.out) in
     let d = length-drop c.loop-n.at c.loop-n.out in
     (r.inside, (r.small, rw (o, d) (omega (arith, r.room, c.requires.total_in_bounds, c.loop-n.invariant.1.begun.same))))
@@ -29,18 +28,16 @@ put-at-requires c =
 pub overflow_add-at : goal.overflow_add-at
 overflow_add-at c =
     let stepped : (s : Step) → c.step.result ≡ s → flat_step c.args.list.now c.loop-n.c.at ≡ step_of s = λ s e. sym c.step.ensures ∙ ap step_of e in
-    let v = c.place-1.given in
     let h = c.loop-n-test.true in
-    let e = stepped _ v.1 in
-    let r = written_turn c.loop-n.invariant.0 c.loop-n.invariant.1 h v.0.0 v.0.1.0.at e in
-    let n = written-size c.loop-n.invariant.0 c.loop-n.invariant.1 h v.0.0 v.0.1.0.at e c.requires.total_in_bounds c.put-at.ensures in
+    let e = stepped _ c.in-Parameter.is in
+    let r = written_turn c.loop-n.invariant.0 c.loop-n.invariant.1 h c.in-Parameter.place c.in-Parameter.next.at e in
+    let n = written-size c.loop-n.invariant.0 c.loop-n.invariant.1 h c.in-Parameter.place c.in-Parameter.next.at e c.requires.total_in_bounds c.put-at.ensures in
     omega (arith, r.room, n, c.ranges.total)
 
 pub loop-n-preserved : goal.loop-n-preserved
 loop-n-preserved c =
     let stepped : (s : Step) → c.step.result ≡ s → flat_step c.args.list.now c.loop-n.c.at ≡ step_of s = λ s e. sym c.step.ensures ∙ ap step_of e in
-    let v = c.place-1.given in
-    (c.loop-n.invariant.0, written_more c.loop-n.invariant.0 c.loop-n.invariant.1 c.loop-n-test.true v.0.0 v.0.1.0.at _ _ (stepped _ v.1) c.requires.total_in_bounds c.put-at.ensures)
+    (c.loop-n.invariant.0, written_more c.loop-n.invariant.0 c.loop-n.invariant.1 c.loop-n-test.true c.in-Parameter.place c.in-Parameter.next.at _ _ (stepped _ c.in-Parameter.is) c.requires.total_in_bounds c.put-at.ensures)
 
 pub shape_of-out-in-End : goal.shape_of-out-in-End
 shape_of-out-in-End c = omega (arith, c.loop-n.invariant.1.begun.same)

@@ -16,31 +16,36 @@ use Rattle.message.proofs.SuaMessage.encode.Goals as goal
 
 pub returns-then-total-gt1048576 : goal.returns-then-total-gt1048576
 returns-then-total-gt1048576 c =
-    let measured : accepted c.in-Count.run' ≡ mapped (λ (os : List ℕ). fit64 (length os)) ((after ((records c.args.values.now (record { tags = c.args.tags.now; starts = c.args.starts.now; lengths = c.args.lengths.now }) c.args.self.count)) (each encode_param))) = sym (ap counted_of c.in-Count.is) ∙ c.parameters_length.ensures in
-    rw (written-framed c.args.self.message_type ((records c.args.values.now (record { tags = c.args.tags.now; starts = c.args.starts.now; lengths = c.args.lengths.now }) c.args.self.count)))
-    (message_large c.args.self.message_type ((after ((records c.args.values.now (record { tags = c.args.tags.now; starts = c.args.starts.now; lengths = c.args.lengths.now }) c.args.self.count)) (each encode_param))) _ _ measured c.saturating_add-total.ensures c.args.out.now c.if-total-gt1048576.true)
+    let listed : Outcome (List Param) = records c.args.values.now (record { tags = c.args.tags.now; starts = c.args.starts.now; lengths = c.args.lengths.now }) c.args.self.count in
+    let measured : accepted c.in-Count.run' ≡ mapped (λ (os : List ℕ). fit64 (length os)) ((after listed (each encode_param))) = sym (ap counted_of c.in-Count.is) ∙ c.parameters_length.ensures in
+    rw (written-framed c.args.self.message_type listed)
+    (message_large c.args.self.message_type ((after listed (each encode_param))) _ _ measured c.saturating_add-total.ensures c.args.out.now c.if-total-gt1048576.true)
 
 pub returns-then-out-total : goal.returns-then-out-total
 returns-then-out-total c =
-    let measured : accepted c.in-Count.run' ≡ mapped (λ (os : List ℕ). fit64 (length os)) ((after ((records c.args.values.now (record { tags = c.args.tags.now; starts = c.args.starts.now; lengths = c.args.lengths.now }) c.args.self.count)) (each encode_param))) = sym (ap counted_of c.in-Count.is) ∙ c.parameters_length.ensures in
-    rw (written-framed c.args.self.message_type ((records c.args.values.now (record { tags = c.args.tags.now; starts = c.args.starts.now; lengths = c.args.lengths.now }) c.args.self.count)))
+    let listed : Outcome (List Param) = records c.args.values.now (record { tags = c.args.tags.now; starts = c.args.starts.now; lengths = c.args.lengths.now }) c.args.self.count in
+    let measured : accepted c.in-Count.run' ≡ mapped (λ (os : List ℕ). fit64 (length os)) ((after listed (each encode_param))) = sym (ap counted_of c.in-Count.is) ∙ c.parameters_length.ensures in
+    rw (written-framed c.args.self.message_type listed)
     (deliver_too_long _ _ c.args.out.now
-    (message-counted c.args.self.message_type ((after ((records c.args.values.now (record { tags = c.args.tags.now; starts = c.args.starts.now; lengths = c.args.lengths.now }) c.args.self.count)) (each encode_param))) _ _ measured c.saturating_add-total.ensures c.if-total-gt1048576.false) c.if-out-total.true)
+    (message-counted c.args.self.message_type ((after listed (each encode_param))) _ _ measured c.saturating_add-total.ensures c.if-total-gt1048576.false) c.if-out-total.true)
 
 pub returns-in-Refused : goal.returns-in-Refused
-returns-in-Refused c = rw (written-framed c.args.self.message_type ((records c.args.values.now (record { tags = c.args.tags.now; starts = c.args.starts.now; lengths = c.args.lengths.now }) c.args.self.count)))
-    (message_refused c.args.self.message_type ((after ((records c.args.values.now (record { tags = c.args.tags.now; starts = c.args.starts.now; lengths = c.args.lengths.now }) c.args.self.count)) (each encode_param))) _ _ c.args.out.now (sym (ap counted_of c.in-Refused.is) ∙ c.parameters_length.ensures))
+returns-in-Refused c =
+    let listed : Outcome (List Param) = records c.args.values.now (record { tags = c.args.tags.now; starts = c.args.starts.now; lengths = c.args.lengths.now }) c.args.self.count in
+    rw (written-framed c.args.self.message_type listed)
+    (message_refused c.args.self.message_type ((after listed (each encode_param))) _ _ c.args.out.now (sym (ap counted_of c.in-Refused.is) ∙ c.parameters_length.ensures))
 
 pub returns-else-out-total : goal.returns-else-out-total
 returns-else-out-total c =
-    let measured : accepted c.in-Count.run' ≡ mapped (λ (os : List ℕ). fit64 (length os)) ((after ((records c.args.values.now (record { tags = c.args.tags.now; starts = c.args.starts.now; lengths = c.args.lengths.now }) c.args.self.count)) (each encode_param))) = sym (ap counted_of c.in-Count.is) ∙ c.parameters_length.ensures in
+    let listed : Outcome (List Param) = records c.args.values.now (record { tags = c.args.tags.now; starts = c.args.starts.now; lengths = c.args.lengths.now }) c.args.self.count in
+    let measured : accepted c.in-Count.run' ≡ mapped (λ (os : List ℕ). fit64 (length os)) ((after listed (each encode_param))) = sym (ap counted_of c.in-Count.is) ∙ c.parameters_length.ensures in
     let m = c.args.self.message_type in
     let out = c.args.out.now in
     let run = c.in-Count.run' in
     let total = c.saturating_add-total.result in
     let small = c.if-total-gt1048576.false in
-    let (os, a, whole, sum) = message-known m ((after ((records c.args.values.now (record { tags = c.args.tags.now; starts = c.args.starts.now; lengths = c.args.lengths.now }) c.args.self.count)) (each encode_param))) run total measured c.saturating_add-total.ensures small in
-    let list = encoded_list ((records c.args.values.now (record { tags = c.args.tags.now; starts = c.args.starts.now; lengths = c.args.lengths.now }) c.args.self.count)) ∙ sum-writable ((after ((records c.args.values.now (record { tags = c.args.tags.now; starts = c.args.starts.now; lengths = c.args.lengths.now }) c.args.self.count)) (each encode_param))) run measured (omega arith) ∙ a in
-    rw (written-framed m ((records c.args.values.now (record { tags = c.args.tags.now; starts = c.args.starts.now; lengths = c.args.lengths.now }) c.args.self.count)), whole)
-    (message-done m os total out _ _ c.new.result (after ((records c.args.values.now (record { tags = c.args.tags.now; starts = c.args.starts.now; lengths = c.args.lengths.now }) c.args.self.count)) encode_params) sum c.if-out-total.false c.new.ensures list
+    let (os, a, whole, sum) = message-known m ((after listed (each encode_param))) run total measured c.saturating_add-total.ensures small in
+    let list = encoded_list listed ∙ sum-writable ((after listed (each encode_param))) run measured (omega arith) ∙ a in
+    rw (written-framed m listed, whole)
+    (message-done m os total out _ _ c.new.result (after listed encode_params) sum c.if-out-total.false c.new.ensures list
     c.encode.ensures c.encode_parameters.ensures)

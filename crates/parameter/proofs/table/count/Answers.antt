@@ -30,8 +30,7 @@ loop-n-preserved c =
     let stepped : (s : Step) → c.step.result ≡ s → step_at c.args.bytes.now c.loop-n.c.at ≡ step_of s = λ s e. let xs = c.args.bytes.now in
     let at = c.loop-n.c.at in
     sym (bounded-within xs (step_at xs at) c.if-bytes-gt1048576.false) ∙ sym c.step.ensures ∙ ap step_of e in
-    let v = c.next-1.given in
-    reached_next c.loop-n.invariant c.loop-n-test.true v.0.0 v.0.1.0.at (stepped _ v.1)
+    reached_next c.loop-n.invariant c.loop-n-test.true c.in-Parameter.field-0 c.in-Parameter.next.at (stepped _ c.in-Parameter.is)
 
 pub returns-in-End : goal.returns-in-End
 returns-in-End c =

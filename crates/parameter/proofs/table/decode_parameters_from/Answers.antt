@@ -28,7 +28,7 @@ returns-then-lengths-needed c =
 pub fill-requires : goal.fill-requires
 fill-requires c =
     let counted : accepted c.in-Count.needed ≡ mapped length ((bounded c.args.bytes.now (places c.args.bytes.now c.args.from))) = sym (ap counted_of c.in-Count.is) ∙ c.count.ensures in
-    (counted, (c.if-tags-needed.false, (c.if-starts-needed.false, c.if-lengths-needed.false)))
+    record { count_value = counted; count_in_bounds = c.if-tags-needed.false; count_in_bounds_2 = c.if-starts-needed.false; count_in_bounds_3 = c.if-lengths-needed.false }
 
 pub returns-in-Refused : goal.returns-in-Refused
 returns-in-Refused c = table_refused ((bounded c.args.bytes.now (places c.args.bytes.now c.args.from))) _ _ _ (sym (ap counted_of c.in-Refused.is) ∙ c.count.ensures)

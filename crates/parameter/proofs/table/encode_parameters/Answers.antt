@@ -14,25 +14,31 @@ use Rattle.parameter.proofs.table.encode_parameters.Goals as goal
 
 pub returns-then-n-gt1048576 : goal.returns-then-n-gt1048576
 returns-then-n-gt1048576 c =
-    let counted : accepted c.in-Count.n ≡ mapped (λ (os : List ℕ). fit64 (length os)) ((after ((records c.args.values.now (record { tags = c.args.tags.now; starts = c.args.starts.now; lengths = c.args.lengths.now }) c.args.count)) (each encode_param))) = sym (ap counted_of c.in-Count.is) ∙ c.parameters_length.ensures in
-    rw (encoded_list ((records c.args.values.now (record { tags = c.args.tags.now; starts = c.args.starts.now; lengths = c.args.lengths.now }) c.args.count))) (sum_large ((after ((records c.args.values.now (record { tags = c.args.tags.now; starts = c.args.starts.now; lengths = c.args.lengths.now }) c.args.count)) (each encode_param))) _ counted c.args.out.now c.if-n-gt1048576.true)
+    let listed : Outcome (List Param) = records c.args.values.now (record { tags = c.args.tags.now; starts = c.args.starts.now; lengths = c.args.lengths.now }) c.args.count in
+    let counted : accepted c.in-Count.n ≡ mapped (λ (os : List ℕ). fit64 (length os)) ((after listed (each encode_param))) = sym (ap counted_of c.in-Count.is) ∙ c.parameters_length.ensures in
+    rw (encoded_list listed) (sum_large ((after listed (each encode_param))) _ counted c.args.out.now c.if-n-gt1048576.true)
 
 pub returns-then-out-n : goal.returns-then-out-n
 returns-then-out-n c =
-    let counted : accepted c.in-Count.n ≡ mapped (λ (os : List ℕ). fit64 (length os)) ((after ((records c.args.values.now (record { tags = c.args.tags.now; starts = c.args.starts.now; lengths = c.args.lengths.now }) c.args.count)) (each encode_param))) = sym (ap counted_of c.in-Count.is) ∙ c.parameters_length.ensures in
-    let e = sum-writable ((after ((records c.args.values.now (record { tags = c.args.tags.now; starts = c.args.starts.now; lengths = c.args.lengths.now }) c.args.count)) (each encode_param))) _ counted c.if-n-gt1048576.false in
-    rw (encoded_list ((records c.args.values.now (record { tags = c.args.tags.now; starts = c.args.starts.now; lengths = c.args.lengths.now }) c.args.count)), e) (deliver_too_long ((after ((records c.args.values.now (record { tags = c.args.tags.now; starts = c.args.starts.now; lengths = c.args.lengths.now }) c.args.count)) (each encode_param))) _ c.args.out.now (sum_exact ((after ((records c.args.values.now (record { tags = c.args.tags.now; starts = c.args.starts.now; lengths = c.args.lengths.now }) c.args.count)) (each encode_param))) _ counted c.if-n-gt1048576.false) c.if-out-n.true)
+    let listed : Outcome (List Param) = records c.args.values.now (record { tags = c.args.tags.now; starts = c.args.starts.now; lengths = c.args.lengths.now }) c.args.count in
+    let counted : accepted c.in-Count.n ≡ mapped (λ (os : List ℕ). fit64 (length os)) ((after listed (each encode_param))) = sym (ap counted_of c.in-Count.is) ∙ c.parameters_length.ensures in
+    let e = sum-writable ((after listed (each encode_param))) _ counted c.if-n-gt1048576.false in
+    rw (encoded_list listed, e) (deliver_too_long ((after listed (each encode_param))) _ c.args.out.now (sum_exact ((after listed (each encode_param))) _ counted c.if-n-gt1048576.false) c.if-out-n.true)
 
 pub write_run-requires : goal.write_run-requires
 write_run-requires c =
-    let counted : accepted c.in-Count.n ≡ mapped (λ (os : List ℕ). fit64 (length os)) ((after ((records c.args.values.now (record { tags = c.args.tags.now; starts = c.args.starts.now; lengths = c.args.lengths.now }) c.args.count)) (each encode_param))) = sym (ap counted_of c.in-Count.is) ∙ c.parameters_length.ensures in
-    (sum_exact ((after ((records c.args.values.now (record { tags = c.args.tags.now; starts = c.args.starts.now; lengths = c.args.lengths.now }) c.args.count)) (each encode_param))) _ counted c.if-n-gt1048576.false, c.if-out-n.false)
+    let listed : Outcome (List Param) = records c.args.values.now (record { tags = c.args.tags.now; starts = c.args.starts.now; lengths = c.args.lengths.now }) c.args.count in
+    let counted : accepted c.in-Count.n ≡ mapped (λ (os : List ℕ). fit64 (length os)) ((after listed (each encode_param))) = sym (ap counted_of c.in-Count.is) ∙ c.parameters_length.ensures in
+    record { total_value = sum_exact ((after listed (each encode_param))) _ counted c.if-n-gt1048576.false; total_in_bounds = c.if-out-n.false }
 
 pub returns-in-Refused : goal.returns-in-Refused
-returns-in-Refused c = rw (encoded_list ((records c.args.values.now (record { tags = c.args.tags.now; starts = c.args.starts.now; lengths = c.args.lengths.now }) c.args.count))) (sum_refused ((after ((records c.args.values.now (record { tags = c.args.tags.now; starts = c.args.starts.now; lengths = c.args.lengths.now }) c.args.count)) (each encode_param))) _ _ c.args.out.now (sym (ap counted_of c.in-Refused.is) ∙ c.parameters_length.ensures))
+returns-in-Refused c =
+    let listed : Outcome (List Param) = records c.args.values.now (record { tags = c.args.tags.now; starts = c.args.starts.now; lengths = c.args.lengths.now }) c.args.count in
+    rw (encoded_list listed) (sum_refused ((after listed (each encode_param))) _ _ c.args.out.now (sym (ap counted_of c.in-Refused.is) ∙ c.parameters_length.ensures))
 
 pub returns-else-out-n : goal.returns-else-out-n
 returns-else-out-n c =
-    let counted : accepted c.in-Count.n ≡ mapped (λ (os : List ℕ). fit64 (length os)) ((after ((records c.args.values.now (record { tags = c.args.tags.now; starts = c.args.starts.now; lengths = c.args.lengths.now }) c.args.count)) (each encode_param))) = sym (ap counted_of c.in-Count.is) ∙ c.parameters_length.ensures in
-    let e = sum-writable ((after ((records c.args.values.now (record { tags = c.args.tags.now; starts = c.args.starts.now; lengths = c.args.lengths.now }) c.args.count)) (each encode_param))) _ counted c.if-n-gt1048576.false in
-    rw (encoded_list ((records c.args.values.now (record { tags = c.args.tags.now; starts = c.args.starts.now; lengths = c.args.lengths.now }) c.args.count)), e) c.write_run.ensures
+    let listed : Outcome (List Param) = records c.args.values.now (record { tags = c.args.tags.now; starts = c.args.starts.now; lengths = c.args.lengths.now }) c.args.count in
+    let counted : accepted c.in-Count.n ≡ mapped (λ (os : List ℕ). fit64 (length os)) ((after listed (each encode_param))) = sym (ap counted_of c.in-Count.is) ∙ c.parameters_length.ensures in
+    let e = sum-writable ((after listed (each encode_param))) _ counted c.if-n-gt1048576.false in
+    rw (encoded_list listed, e) c.write_run.ensures

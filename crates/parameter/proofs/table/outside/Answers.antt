@@ -9,25 +9,39 @@ use Rattle.parameter.proofs.Records.{first_rows, Inside, records_few, check_more
 use Rattle.parameter.proofs.table.outside.Goals as goal
 
 pub returns-then-tags-count : goal.returns-then-tags-count
-returns-then-tags-count c = records_few c.args.values.now ((record { tags = c.args.tags.now; starts = c.args.starts.now; lengths = c.args.lengths.now })) c.args.count (small_tags ((record { tags = c.args.tags.now; starts = c.args.starts.now; lengths = c.args.lengths.now })).tags ((record { tags = c.args.tags.now; starts = c.args.starts.now; lengths = c.args.lengths.now })).starts ((record { tags = c.args.tags.now; starts = c.args.starts.now; lengths = c.args.lengths.now })).lengths c.args.count c.if-tags-count.true)
+returns-then-tags-count c =
+    let table : Table = record { tags = c.args.tags.now; starts = c.args.starts.now; lengths = c.args.lengths.now } in
+    records_few c.args.values.now table c.args.count (small_tags table.tags table.starts table.lengths c.args.count c.if-tags-count.true)
 
 pub returns-then-starts-count : goal.returns-then-starts-count
-returns-then-starts-count c = records_few c.args.values.now ((record { tags = c.args.tags.now; starts = c.args.starts.now; lengths = c.args.lengths.now })) c.args.count (small_starts ((record { tags = c.args.tags.now; starts = c.args.starts.now; lengths = c.args.lengths.now })).tags ((record { tags = c.args.tags.now; starts = c.args.starts.now; lengths = c.args.lengths.now })).starts ((record { tags = c.args.tags.now; starts = c.args.starts.now; lengths = c.args.lengths.now })).lengths c.args.count c.if-starts-count.true)
+returns-then-starts-count c =
+    let table : Table = record { tags = c.args.tags.now; starts = c.args.starts.now; lengths = c.args.lengths.now } in
+    records_few c.args.values.now table c.args.count (small_starts table.tags table.starts table.lengths c.args.count c.if-starts-count.true)
 
 pub returns-then-lengths-count : goal.returns-then-lengths-count
-returns-then-lengths-count c = records_few c.args.values.now ((record { tags = c.args.tags.now; starts = c.args.starts.now; lengths = c.args.lengths.now })) c.args.count (small_lengths ((record { tags = c.args.tags.now; starts = c.args.starts.now; lengths = c.args.lengths.now })).tags ((record { tags = c.args.tags.now; starts = c.args.starts.now; lengths = c.args.lengths.now })).starts ((record { tags = c.args.tags.now; starts = c.args.starts.now; lengths = c.args.lengths.now })).lengths c.args.count c.if-lengths-count.true)
+returns-then-lengths-count c =
+    let table : Table = record { tags = c.args.tags.now; starts = c.args.starts.now; lengths = c.args.lengths.now } in
+    records_few c.args.values.now table c.args.count (small_lengths table.tags table.starts table.lengths c.args.count c.if-lengths-count.true)
 
 pub loop-i-init : goal.loop-i-init
 loop-i-init c = (search rules, refl)
 
 pub returns-then-n-start : goal.returns-then-n-start
-returns-then-n-start c = check_outside c.args.values.now ((record { tags = c.args.tags.now; starts = c.args.starts.now; lengths = c.args.lengths.now })).tags ((record { tags = c.args.tags.now; starts = c.args.starts.now; lengths = c.args.lengths.now })).starts ((record { tags = c.args.tags.now; starts = c.args.starts.now; lengths = c.args.lengths.now })).lengths c.args.count (omega (arith, c)) (omega (arith, c)) (omega (arith, c)) c.loop-i.i c.loop-i.invariant.1 c.loop-i-test.true (omega arith)
+returns-then-n-start c =
+    let table : Table = record { tags = c.args.tags.now; starts = c.args.starts.now; lengths = c.args.lengths.now } in
+    check_outside c.args.values.now table.tags table.starts table.lengths c.args.count (omega (arith, c)) (omega (arith, c)) (omega (arith, c)) c.loop-i.i c.loop-i.invariant.1 c.loop-i-test.true (omega arith)
 
 pub returns-then-n-start-2 : goal.returns-then-n-start-2
-returns-then-n-start-2 c = check_outside c.args.values.now ((record { tags = c.args.tags.now; starts = c.args.starts.now; lengths = c.args.lengths.now })).tags ((record { tags = c.args.tags.now; starts = c.args.starts.now; lengths = c.args.lengths.now })).starts ((record { tags = c.args.tags.now; starts = c.args.starts.now; lengths = c.args.lengths.now })).lengths c.args.count (omega (arith, c)) (omega (arith, c)) (omega (arith, c)) c.loop-i.i c.loop-i.invariant.1 c.loop-i-test.true (omega arith)
+returns-then-n-start-2 c =
+    let table : Table = record { tags = c.args.tags.now; starts = c.args.starts.now; lengths = c.args.lengths.now } in
+    check_outside c.args.values.now table.tags table.starts table.lengths c.args.count (omega (arith, c)) (omega (arith, c)) (omega (arith, c)) c.loop-i.i c.loop-i.invariant.1 c.loop-i-test.true (omega arith)
 
 pub loop-i-preserved : goal.loop-i-preserved
-loop-i-preserved c = (search rules, check_more c.args.values.now ((record { tags = c.args.tags.now; starts = c.args.starts.now; lengths = c.args.lengths.now })).tags ((record { tags = c.args.tags.now; starts = c.args.starts.now; lengths = c.args.lengths.now })).starts ((record { tags = c.args.tags.now; starts = c.args.starts.now; lengths = c.args.lengths.now })).lengths c.args.count (omega (arith, c)) (omega (arith, c)) (omega (arith, c)) c.loop-i.i c.loop-i.invariant.1 c.loop-i-test.true (omega arith))
+loop-i-preserved c =
+    let table : Table = record { tags = c.args.tags.now; starts = c.args.starts.now; lengths = c.args.lengths.now } in
+    (search rules, check_more c.args.values.now table.tags table.starts table.lengths c.args.count (omega (arith, c)) (omega (arith, c)) (omega (arith, c)) c.loop-i.i c.loop-i.invariant.1 c.loop-i-test.true (omega arith))
 
 pub returns : goal.returns
-returns c = check_all c.args.values.now ((record { tags = c.args.tags.now; starts = c.args.starts.now; lengths = c.args.lengths.now })).tags ((record { tags = c.args.tags.now; starts = c.args.starts.now; lengths = c.args.lengths.now })).starts ((record { tags = c.args.tags.now; starts = c.args.starts.now; lengths = c.args.lengths.now })).lengths c.args.count (omega (arith, c)) (omega (arith, c)) (omega (arith, c)) c.loop-i.i c.loop-i.invariant.1 c.loop-i-test.false
+returns c =
+    let table : Table = record { tags = c.args.tags.now; starts = c.args.starts.now; lengths = c.args.lengths.now } in
+    check_all c.args.values.now table.tags table.starts table.lengths c.args.count (omega (arith, c)) (omega (arith, c)) (omega (arith, c)) c.loop-i.i c.loop-i.invariant.1 c.loop-i-test.false

@@ -12,11 +12,15 @@ use Rattle.parameter.proofs.Running.{Measured, measured_start, measured_more, me
 use Rattle.parameter.proofs.table.parameters_length.Goals as goal
 
 pub returns-then-outside : goal.returns-then-outside
-returns-then-outside c = let e = told_outside (records c.args.values.now ((record { tags = c.args.tags.now; starts = c.args.starts.now; lengths = c.args.lengths.now })) c.args.count) _ _ _ _ c.outside.ensures c.if-outside.true in
+returns-then-outside c =
+    let table : Table = record { tags = c.args.tags.now; starts = c.args.starts.now; lengths = c.args.lengths.now } in
+    let e = told_outside (records c.args.values.now table c.args.count) _ _ _ _ c.outside.ensures c.if-outside.true in
     rw e
 
 pub loop-i-init : goal.loop-i-init
-loop-i-init c = (search rules, told-held c.args.values.now ((record { tags = c.args.tags.now; starts = c.args.starts.now; lengths = c.args.lengths.now })).tags ((record { tags = c.args.tags.now; starts = c.args.starts.now; lengths = c.args.lengths.now })).starts ((record { tags = c.args.tags.now; starts = c.args.starts.now; lengths = c.args.lengths.now })).lengths c.args.count _ _ _ c.outside.ensures c.if-outside.false, measured_start _)
+loop-i-init c =
+    let table : Table = record { tags = c.args.tags.now; starts = c.args.starts.now; lengths = c.args.lengths.now } in
+    (search rules, told-held c.args.values.now table.tags table.starts table.lengths c.args.count _ _ _ c.outside.ensures c.if-outside.false, measured_start _)
 
 pub returns-then-length-gt65531 : goal.returns-then-length-gt65531
 returns-then-length-gt65531 c = let k = c.loop-i.invariant.1 in

@@ -29,7 +29,7 @@ put-requires c =
     let k = part_length (get_or c.args.starts.now c.loop-i.i 0) (get_or c.args.lengths.now c.loop-i.i 0) c.args.values.now t.inside in
     let o = length-take (length c.loop-i.out - c.loop-i.at) (drop c.loop-i.at c.loop-i.out) in
     let d = length-drop c.loop-i.at c.loop-i.out in
-    (rw k t.small, rw (k, o, d) (omega arith))
+    record { value_len_bound = rw k t.small; value_in_bounds = rw (k, o, d) (omega arith) }
 
 pub overflow_add-at : goal.overflow_add-at
 overflow_add-at c =

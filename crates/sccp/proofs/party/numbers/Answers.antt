@@ -43,7 +43,7 @@ title_in-requires c =
     let party : IsParty c.args.octets.now = party_inv c.args.octets.now bounded c.requires.octets_value in
     let placed : c.behind-title_place.result ≡ title_place (get_or c.args.octets.now 0 0) = title_placed (get_or c.args.octets.now 0 0) c.behind-ssn_place.result c.behind-title_place.result c.behind-ssn_place.ensures c.behind-title_place.ensures in
     let p = party in
-    (c.requires.octets_len_bound, (omega (arith, placed, p.inside, c.requires.octets_len_bound), λ t. subst (HasTitle c.args.octets.now) (sym placed) (title_has c.args.octets.now bounded p t)))
+    record { octets_len_bound = c.requires.octets_len_bound; place_le_most = omega (arith, placed, p.inside, c.requires.octets_len_bound); has_title = λ t. subst (HasTitle c.args.octets.now) (sym placed) (title_has c.args.octets.now bounded p t) }
 
 pub returns : goal.returns
 returns c =

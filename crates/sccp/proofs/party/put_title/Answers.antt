@@ -56,7 +56,7 @@ copy_digits-requires c =
     let t = c.args.title in
     let r = room in
     let l = stored in
-    (part_halves xs t c.requires.sound_title, (part_short xs t.start _ c.requires.octets_len_bound, omega (arith, lent_length ((fronted c.args.octets.now c.args.title c.requires.sound_title c.args.out.now room)) 3)))
+    record { count_bound = part_halves xs t c.requires.sound_title; octets_len_bound = part_short xs t.start _ c.requires.octets_len_bound; count_in_bounds = omega (arith, lent_length ((fronted c.args.octets.now c.args.title c.requires.sound_title c.args.out.now room)) 3) }
 
 pub shape_of-out : goal.shape_of-out
 shape_of-out c =

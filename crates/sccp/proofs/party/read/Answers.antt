@@ -13,7 +13,7 @@ pub returns-then-not-converts : goal.returns-then-not-converts
 returns-then-not-converts c = read-invalid c.args.octets.now c.if-n-gt1048576.false (sym c.converts.ensures ∙ not-true _ c.if-not-converts.true-raw)
 
 pub numbers-requires : goal.numbers-requires
-numbers-requires c = (c.if-n-gt1048576.false, sym c.converts.ensures ∙ not-false _ c.if-not-converts.false-raw)
+numbers-requires c = record { octets_len_bound = c.if-n-gt1048576.false; octets_value = sym c.converts.ensures ∙ not-false _ c.if-not-converts.false-raw }
 
 pub returns : goal.returns
 returns c = let v = c.args.octets.now in

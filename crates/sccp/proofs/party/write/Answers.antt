@@ -333,7 +333,7 @@ put_title-requires c =
     + c.flag-4.result))) in put_mid 1 (length d - 1) d c.put_code.new.out) in
     let at = c.behind-ssn_place.result in
     put_mid at (length d - at) d c.put_ssn.new.out)) c.behind-title_place.result in
-    (c.requires.title, (c.requires.within, omega (arith, subbed.same, room, title_at_lem)))
+    record { sound_title = c.requires.title; octets_len_bound = c.requires.within; count_in_bounds = omega (arith, subbed.same, room, title_at_lem) }
 
 pub shape_of-out : goal.shape_of-out
 shape_of-out c =

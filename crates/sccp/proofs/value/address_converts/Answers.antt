@@ -19,7 +19,7 @@ returns-then-not-plain c =
     converts-known c.requires false _ _ (plain_is false (not-true _ c.if-not-plain.true-raw)) refl refl
 
 pub kept_title_converts-requires : goal.kept_title_converts-requires
-kept_title_converts-requires c = let r = c.requires in ((sound r.known r.whole).title, r.known.within)
+kept_title_converts-requires c = let r = c.requires in record { held_in = (sound r.known r.whole).title; value_len_bound = r.known.within }
 
 pub returns-then-not-kept_title_converts : goal.returns-then-not-kept_title_converts
 returns-then-not-kept_title_converts c =

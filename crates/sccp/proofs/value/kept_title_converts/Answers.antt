@@ -27,7 +27,7 @@ title_converts-requires c =
     let held : Lies c.args.value.now 8 c.args.kept = c.requires.held_in (lt-ltb 0 _ c.if-kept-gt0.true) in
     let h = held in
     let l = part_length c.args.kept.start c.args.kept.length c.args.value.now h.0 in
-    (omega (arith, h.1), omega (arith, h.0, c.requires.value_len_bound))
+    record { in_bounds = omega (arith, h.1); value_len_bound = omega (arith, h.0, c.requires.value_len_bound) }
 
 pub returns-then-kept-gt0 : goal.returns-then-kept-gt0
 returns-then-kept-gt0 c = rw (lt-ltb 0 _ c.if-kept-gt0.true)

@@ -48,7 +48,7 @@ copy_digits-requires c =
     let t = c.args.title in
     let r = room in
     let l = lent_length ((let out = c.args.out.now in put_mid 4 (length out - 4) out c.copy.new.out)) 12 in
-    (part_halves c.args.octets.now t c.requires.sound_title, (part_short c.args.octets.now t.start _ c.requires.octets_len_bound, omega (arith, headed-there.same)))
+    record { count_bound = part_halves c.args.octets.now t c.requires.sound_title; octets_len_bound = part_short c.args.octets.now t.start _ c.requires.octets_len_bound; count_in_bounds = omega (arith, headed-there.same) }
 
 pub returns-then-there : goal.returns-then-there
 returns-then-there c =

@@ -36,7 +36,7 @@ numbers-requires c =
     let known : Read c.args.value.now c.in-Parts.parts = let v = c.args.value.now in
     interpreted-read (octets-of v (λ i. (c.type_inv.value i).fits)) (answered _ c.in-Parts.is) in
     let converts_is : (b : Bool) → c.address_converts.result ≡ b → accepted b ≡ mapped converts (read_address built_in c.args.value.now) = λ b e. ap accepted (sym e) ∙ c.address_converts.ensures in
-    (known, sym (converts_is _ (not-false _ c.if-not-address_converts.false-raw)))
+    record { read = known; value_value = sym (converts_is _ (not-false _ c.if-not-address_converts.false-raw)) }
 
 pub returns-in-Refused : goal.returns-in-Refused
 returns-in-Refused c =

@@ -69,11 +69,8 @@ pub returns-then-kept-gt0 : goal.returns-then-kept-gt0
 returns-then-kept-gt0 c = let v = c.args.value.now in
     let k = c.args.kept in
     let there = lt-ltb 0 k.start c.if-kept-gt0.true in
-    let octets = octets-of v (λ i. (c.type_inv.value i).fits) in (
-      title_told_lem v k there c.requires.held_in c.requires.kept_value c.smaller-count.result c.smaller-count.ensures,
-      title_sound v k there c.requires.held_in c.requires.kept_value c.smaller-count.result c.smaller-count.ensures octets,
-    )
+    let octets = octets-of v (λ i. (c.type_inv.value i).fits) in record { result_value = title_told_lem v k there c.requires.held_in c.requires.kept_value c.smaller-count.result c.smaller-count.ensures; sound_title = title_sound v k there c.requires.held_in c.requires.kept_value c.smaller-count.result c.smaller-count.ensures octets }
 
 pub returns : goal.returns
 returns c = let v = c.args.value.now in
-    (absent_title v c.args.kept c.none.result c.if-kept-gt0.false, rw c.none.ensures (none_sound v))
+    record { result_value = absent_title v c.args.kept c.none.result c.if-kept-gt0.false; sound_title = rw c.none.ensures (none_sound v) }

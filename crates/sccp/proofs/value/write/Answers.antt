@@ -80,7 +80,7 @@ put_title-requires c =
     let headed : Begun c.args.out.now (head_from c.args.address) c.put_head.new.out = begin c.args.out.now (head_from c.args.address) _ (omega (arith, room)) c.put_head.ensures in
     let l = lent_length c.put_head.new.out 4 in
     let size = ap (λ (n : ℕ). pick c.args.address.has_title n 0) (padded c.args.address.title.count) in
-    (c.requires.title, (c.requires.within, omega (arith, headed.same, room)))
+    record { sound_title = c.requires.title; octets_len_bound = c.requires.within; count_in_bounds = omega (arith, headed.same, room) }
 
 pub slice_bounds-put_four-count : goal.slice_bounds-put_four-count
 slice_bounds-put_four-count c =

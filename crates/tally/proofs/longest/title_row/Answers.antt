@@ -19,7 +19,7 @@ write_starts-requires c =
     (λ a. ⊎_elim (λ b. omega arith) (λ b. omega arith) c.if-there-n.branch)
     c.if-n-gt15.branch in
     let e = fewest in
-    (omega arith, (omega (arith, rest-length c.args.title.now), refl))
+    record { n_bound = omega arith; n_bound_2 = omega (arith, rest-length c.args.title.now); out_len = refl }
 
 pub longest-requires : goal.longest-requires
 longest-requires c =
@@ -28,7 +28,7 @@ longest-requires c =
     (λ a. ⊎_elim (λ b. omega arith) (λ b. omega arith) c.if-there-n.branch)
     c.if-n-gt15.branch in
     let e = fewest in
-    (c.requires.usable, omega arith)
+    record { usable = c.requires.usable; n_bound = omega arith }
 
 pub returns : goal.returns
 returns c =

@@ -23,7 +23,7 @@ slice_bounds-code-end c = omega (arith, lengths_fit _ c.args.lengths.now c.loop-
 pub code-requires : goal.code-requires
 code-requires c = let n = get_or c.args.lengths.now c.loop-i.i 0 in
     let short = lengths_short _ c.args.lengths.now c.loop-i.i c.requires.lengths_value c.loop-i-test.true in
-    (every_part (between 0x30 0x39) c.loop-i.at (c.loop-i.at + n - c.loop-i.at) c.args.digits.now c.requires.digits_value, rw length-take (omega arith))
+    record { prefix_value = every_part (between 0x30 0x39) c.loop-i.at (c.loop-i.at + n - c.loop-i.at) c.args.digits.now c.requires.digits_value; prefix_len_bound = rw length-take (omega arith) }
 
 pub loop-i-preserved : goal.loop-i-preserved
 loop-i-preserved c = stored_next c.args.digits.now c.args.lengths.now c.args.out.now c.loop-i.i c.loop-i.at c.loop-i.out c.code.result c.loop-i.invariant c.loop-i-test.true (omega arith) c.code.ensures

@@ -34,7 +34,7 @@ slice_bounds-title_row-end c =
 pub title_row-requires : goal.title_row-requires
 title_row-requires c =
     let told : (f : Found) → c.last.result ≡ f → found_of f ≡ mapped (last_with 0x8001) (places c.args.value.now 4) = λ f e. sym (ap found_of e) ∙ c.last.ensures in
-    (c.requires.usable, title_large c.args.value.now _ (told _ c.in-At.is) c.requires.reads)
+    record { usable = c.requires.usable; in_bounds = title_large c.args.value.now _ (told _ c.in-At.is) c.requires.reads }
 
 pub returns-in-At : goal.returns-in-At
 returns-in-At c =

@@ -18,16 +18,14 @@ returns-then-p-tag c =
     let stepped : (s : Step) → c.step.result ≡ s → step_at c.args.bytes.now c.loop-n.c.at ≡ step_of s = λ s e. let xs = c.args.bytes.now in
     let at = c.loop-n.c.at in
     sym (bounded-within xs (step_at xs at) c.requires.size) ∙ sym c.step.ensures ∙ ap step_of e in
-    let v = c.p-1.given in
-    looked_found c.loop-n.invariant c.loop-n-test.true v.0.0 v.0.1.0.at (stepped _ v.1) c.requires c.if-p-tag.true
+    looked_found c.loop-n.invariant c.loop-n-test.true c.in-Parameter.p c.in-Parameter.next.at (stepped _ c.in-Parameter.is) c.requires c.if-p-tag.true
 
 pub loop-n-preserved : goal.loop-n-preserved
 loop-n-preserved c =
     let stepped : (s : Step) → c.step.result ≡ s → step_at c.args.bytes.now c.loop-n.c.at ≡ step_of s = λ s e. let xs = c.args.bytes.now in
     let at = c.loop-n.c.at in
     sym (bounded-within xs (step_at xs at) c.requires.size) ∙ sym c.step.ensures ∙ ap step_of e in
-    let v = c.p-1.given in
-    looking_next c.loop-n.invariant c.loop-n-test.true v.0.0 v.0.1.0.at (stepped _ v.1) c.if-p-tag.false
+    looking_next c.loop-n.invariant c.loop-n-test.true c.in-Parameter.p c.in-Parameter.next.at (stepped _ c.in-Parameter.is) c.if-p-tag.false
 
 pub returns-in-End : goal.returns-in-End
 returns-in-End c =

@@ -19,12 +19,11 @@ loop-n-preserved c =
     let stepped : (s : Step) → c.step.result ≡ s → step_at c.args.bytes.now c.loop-n.c.at ≡ step_of s = λ s e. let xs = c.args.bytes.now in
     let at = c.loop-n.c.at in
     sym (bounded-within xs (step_at xs at) c.requires.size) ∙ sym c.step.ensures ∙ ap step_of e in
-    let v = c.p-1.given in
     let i = c.loop-n.invariant in
-    let e = stepped _ v.1 in
+    let e = stepped _ c.in-Parameter.is in
     ⊎_elim
-    (λ w. keeping_same i c.loop-n-test.true v.0.0 v.0.1.0.at e _ (ap found_of w.1) w.0.taken)
-    (λ w. keeping_other i c.loop-n-test.true v.0.0 v.0.1.0.at e _ (ap found_of w.1) w.0.left)
+    (λ w. keeping_same i c.loop-n-test.true c.in-Parameter.p c.in-Parameter.next.at e _ (ap found_of w.1) w.0.taken)
+    (λ w. keeping_other i c.loop-n-test.true c.in-Parameter.p c.in-Parameter.next.at e _ (ap found_of w.1) w.0.left)
     c.if-p-tag.branch
 
 pub returns-in-End : goal.returns-in-End

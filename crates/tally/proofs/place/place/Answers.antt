@@ -20,7 +20,7 @@ pub row_of-requires : goal.row_of-requires
 row_of-requires c =
     let told : (r : Counted) → c.settled_length.result ≡ r → counted_of r ≡ mapped length (settled built_in c.args.input.now) = λ r e. sym (ap counted_of e) ∙ c.settled_length.ensures in
     let formed : Formed c.args.input.now = settles_formed c.args.input.now _ (told _ c.in-Count.is) in
-    (c.requires, formed)
+    record { usable = c.requires; formed = formed }
 
 pub data_length-requires : goal.data_length-requires
 data_length-requires c =

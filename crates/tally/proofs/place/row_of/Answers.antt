@@ -47,7 +47,7 @@ pub destination_row-requires : goal.destination_row-requires
 destination_row-requires c =
     let formed_here : (w : Meaning) × Means c.args.input.now w = formed c.args.input.now (λ i. omega (arith, c.type_inv.input i)) c.requires.formed in
     let told : (f : Found) → c.first.result ≡ f → found_of f ≡ mapped (first_with 0x0103) (places c.args.input.now 8) = λ f e. sym (ap found_of e) ∙ c.first.ensures in
-    (c.requires.usable, destination_reads formed_here.1 _ (told _ c.in-At.is))
+    record { usable = c.requires.usable; reads = destination_reads formed_here.1 _ (told _ c.in-At.is) }
 
 pub returns-in-At : goal.returns-in-At
 returns-in-At c =

@@ -24,7 +24,7 @@ returns-then-not-few c = rw (eq-eqb (length c.args.messages.now) (c.args.members
     (rw (← c.few.ensures, not-true c.few.result c.if-not-few.true-raw) refl))
 
 pub proportionate-requires : goal.proportionate-requires
-proportionate-requires c = (omega (arith, c), sym c.few.ensures ∙ not-false c.few.result c.if-not-few.false-raw)
+proportionate-requires c = record { messages_len = omega (arith, c); most_messages_value = sym c.few.ensures ∙ not-false c.few.result c.if-not-few.false-raw }
 
 pub returns : goal.returns
 unfolding valid_rows

@@ -22,7 +22,7 @@ loop-n-preserved c =
     let stepped : (s : Step) → c.step.result ≡ s → step_at c.args.bytes.now c.loop-n.c.at ≡ step_of s = λ s e. let xs = c.args.bytes.now in
     let at = c.loop-n.c.at in
     sym (bounded-within xs (step_at xs at) (counted-within xs c.args.from c.args.count c.requires.count_value)) ∙ sym c.step.ensures ∙ ap step_of e in
-    let pre = c.requires.1 in
+    let pre = c.requires in
     (search rules, filling_next c.in-Parameter.p c.in-Parameter.next.at c.loop-n.invariant.1 within (stepped _ c.in-Parameter.is) (omega (arith, pre)) (omega (arith, pre)) (omega (arith, pre)))
 
 pub returns-in-End : goal.returns-in-End

@@ -25,7 +25,12 @@ list_other-row-requires c =
     let rows : HasRow c.in-Parameter.p c.loop-n.row c.args.tags.now × HasRow c.in-Parameter.p c.loop-n.row c.args.starts.now × HasRow c.in-Parameter.p c.loop-n.row c.args.lengths.now = let t = turn in
     ((λ o. omega (arith, t.below o, c.requires.other_count_in_bounds)), (λ o. omega (arith, t.below o, c.requires.other_count_in_bounds_2)), (λ o. omega (arith, t.below o, c.requires.other_count_in_bounds_3))) in
     let (a, b, d) = rows in
-    (turn.few, ((λ o. omega (arith, a o, c.loop-n.invariant.tags.same)), ((λ o. omega (arith, b o, c.loop-n.invariant.starts.same)), (λ o. omega (arith, d o, c.loop-n.invariant.lengths.same)))))
+    record {
+      row_le_most = turn.few;
+      has_row = λ o. omega (arith, a o, c.loop-n.invariant.tags.same);
+      has_row_2 = λ o. omega (arith, b o, c.loop-n.invariant.starts.same);
+      has_row_3 = λ o. omega (arith, d o, c.loop-n.invariant.lengths.same);
+    }
 
 pub loop-n-preserved : goal.loop-n-preserved
 loop-n-preserved c =
@@ -37,7 +42,7 @@ loop-n-preserved c =
     ((λ o. omega (arith, t.below o, c.requires.other_count_in_bounds)), (λ o. omega (arith, t.below o, c.requires.other_count_in_bounds_2)), (λ o. omega (arith, t.below o, c.requires.other_count_in_bounds_3))) in
     let (a, b, d) = rows in
     let e = c.list_other-row.ensures in
-    tabling_next c.loop-n.invariant c.loop-n-test.true c.in-Parameter.p c.in-Parameter.next.at (stepped _ c.in-Parameter.is) _ _ _ _ a b d e.0 e.1.0 e.1.1.0 e.1.1.1
+    tabling_next c.loop-n.invariant c.loop-n-test.true c.in-Parameter.p c.in-Parameter.next.at (stepped _ c.in-Parameter.is) _ _ _ _ a b d e.value e.tags_after e.starts_after e.lengths_after
 
 pub returns-in-End : goal.returns-in-End
 returns-in-End c =

@@ -8,11 +8,11 @@ use Rattle.address.proofs.encode.write_four.Goals as goal
 
 pub returns-then-there : goal.returns-then-there
 returns-then-there c =
-    let given : Param = record { tag = c.args.tag; value = c.args.t3 } in
-    let long : length c.args.t3 ≡ 4 = search rules in
+    let given : Param = record { tag = c.args.tag; value = c.args.value } in
+    let long : length c.args.value ≡ 4 = search rules in
     four-put c.args.there given c.args.out.now c.if-there.true long c.requires c.encode.ensures
 
 pub returns : goal.returns
 returns c =
-    let given : Param = record { tag = c.args.tag; value = c.args.t3 } in
+    let given : Param = record { tag = c.args.tag; value = c.args.value } in
     four_absent c.args.there given c.args.out.now c.if-there.false

@@ -23,7 +23,7 @@ note-parts-requires c =
     let at = c.loop-n.c.at in
     sym (bounded-within xs (step_at xs at) c.if-value-gt1048576.false) ∙ sym c.step.ensures ∙ ap step_of e in
     let r = surveying_room c.loop-n.invariant c.in-Parameter.p c.in-Parameter.next.at c.if-value-gt1048576.false c.loop-n-test.true (stepped _ c.in-Parameter.is) in
-    (r.count, (r.size, r.value))
+    record { other_count_bound = r.count; other_length_bound = r.size; length_bound = r.value }
 
 pub loop-n-preserved : goal.loop-n-preserved
 loop-n-preserved c =

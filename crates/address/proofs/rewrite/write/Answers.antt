@@ -31,7 +31,7 @@ write_title-a-requires c =
     let headed : Begun c.args.out.now (head_octets c.args.value.now) c.write_head.new.out = let h = planned-length c.requires.plan in
     begin c.args.out.now (head_octets c.args.value.now) _ (omega (arith, c.requires.total_in_bounds)) c.write_head.ensures in
     let p = c.requires.plan in
-    ((sound p.read.known p.read.whole).title, ready_behind 4 headed refl _ (((planned-pieces c.requires.plan).titled)) (planned-pieces p).title (omega (arith, planned-length p, c.requires.total_in_bounds)))
+    record { held_in = (sound p.read.known p.read.whole).title; ready = ready_behind 4 headed refl _ (((planned-pieces c.requires.plan).titled)) (planned-pieces p).title (omega (arith, planned-length p, c.requires.total_in_bounds)) }
 
 pub overflow_add-a : goal.overflow_add-a
 overflow_add-a c =

@@ -48,7 +48,7 @@ write_other-at-requires c =
     let turn : Turn c.args.value.now c.loop-n.out c.in-Parameter.p c.loop-n.at = copying_turn c.requires.walked c.loop-n.invariant c.requires.other_length_in_bounds c.loop-n-test.true c.in-Parameter.p c.in-Parameter.next.at (stepped _ c.in-Parameter.is) in
     let t = turn in
     let lent = lent_length c.loop-n.out c.loop-n.at in
-    (t.inside, (t.small, omega (arith, t.room)))
+    record { length_in_bounds = t.inside; length_le_most_value = t.small; place_in_bounds = omega (arith, t.room) }
 
 pub overflow_add-at : goal.overflow_add-at
 overflow_add-at c =

@@ -4,8 +4,8 @@ use mathlib.Core.Path.{◌≡◌, refl}
 use mathlib.Core.List.{List, []}
 use native.Mathlib.Omega.{arith}
 use lib.ListN.{length}
-use Rattle.bcd.specs.Outcome.{Outcome, accepted, after, mapped, each}
-use Rattle.parameter.specs.Parameter.{Param, most_value, encode_param}
+use Rattle.bcd.specs.Outcome.{accepted, mapped, each}
+use Rattle.parameter.specs.Parameter.{most_value, encode_param}
 use Rattle.parameter.specs.Table.{Table, table}
 use Rattle.address.specs.declared.SuaAddress.{SuaAddress}
 use Rattle.address.specs.Given.{encode_address_as}
@@ -25,27 +25,27 @@ run_small x y z octets n e = run_bounded octets [] x y z n e
 
 pub overflow_add-result : goal.overflow_add-result
 overflow_add-result c =
-    omega (arith, small 0x0102 c.args.src c.args.sv.now (table c.args.st.now c.args.ss.now c.args.sl.now) _ c.in-Count.ensures, small 0x0103 c.args.dst c.args.dv.now (table c.args.dt.now c.args.ds.now c.args.dl.now) _ c.in-Count-encoded_length.ensures, run_small c.args.x c.args.y c.args.z c.args.«data».now _ c.in-Count-run_length.ensures)
+    omega (arith, small _ _ _ _ _ c.in-Count.ensures, small _ _ _ _ _ c.in-Count-encoded_length.ensures, run_small c.args.x c.args.y c.args.z c.args.«data».now _ c.in-Count-run_length.ensures)
 
 pub overflow_mul-result : goal.overflow_mul-result
 overflow_mul-result c =
-    omega (arith, small 0x0102 c.args.src c.args.sv.now (table c.args.st.now c.args.ss.now c.args.sl.now) _ c.in-Count.ensures, small 0x0103 c.args.dst c.args.dv.now (table c.args.dt.now c.args.ds.now c.args.dl.now) _ c.in-Count-encoded_length.ensures, run_small c.args.x c.args.y c.args.z c.args.«data».now _ c.in-Count-run_length.ensures)
+    omega (arith, small _ _ _ _ _ c.in-Count.ensures, small _ _ _ _ _ c.in-Count-encoded_length.ensures, run_small c.args.x c.args.y c.args.z c.args.«data».now _ c.in-Count-run_length.ensures)
 
 pub overflow_add-result-in-Count-run_length : goal.overflow_add-result-in-Count-run_length
 overflow_add-result-in-Count-run_length c =
-    omega (arith, small 0x0102 c.args.src c.args.sv.now (table c.args.st.now c.args.ss.now c.args.sl.now) _ c.in-Count.ensures, small 0x0103 c.args.dst c.args.dv.now (table c.args.dt.now c.args.ds.now c.args.dl.now) _ c.in-Count-encoded_length.ensures, run_small c.args.x c.args.y c.args.z c.args.«data».now _ c.in-Count-run_length.ensures)
+    omega (arith, small _ _ _ _ _ c.in-Count.ensures, small _ _ _ _ _ c.in-Count-encoded_length.ensures, run_small c.args.x c.args.y c.args.z c.args.«data».now _ c.in-Count-run_length.ensures)
 
 pub overflow_mul-result-in-Count-run_length : goal.overflow_mul-result-in-Count-run_length
 overflow_mul-result-in-Count-run_length c =
-    omega (arith, small 0x0102 c.args.src c.args.sv.now (table c.args.st.now c.args.ss.now c.args.sl.now) _ c.in-Count.ensures, small 0x0103 c.args.dst c.args.dv.now (table c.args.dt.now c.args.ds.now c.args.dl.now) _ c.in-Count-encoded_length.ensures, run_small c.args.x c.args.y c.args.z c.args.«data».now _ c.in-Count-run_length.ensures)
+    omega (arith, small _ _ _ _ _ c.in-Count.ensures, small _ _ _ _ _ c.in-Count-encoded_length.ensures, run_small c.args.x c.args.y c.args.z c.args.«data».now _ c.in-Count-run_length.ensures)
 
 pub overflow_add-result-in-Count-run_length-2 : goal.overflow_add-result-in-Count-run_length-2
 overflow_add-result-in-Count-run_length-2 c =
-    omega (arith, small 0x0102 c.args.src c.args.sv.now (table c.args.st.now c.args.ss.now c.args.sl.now) _ c.in-Count.ensures, small 0x0103 c.args.dst c.args.dv.now (table c.args.dt.now c.args.ds.now c.args.dl.now) _ c.in-Count-encoded_length.ensures, run_small c.args.x c.args.y c.args.z c.args.«data».now _ c.in-Count-run_length.ensures)
+    omega (arith, small _ _ _ _ _ c.in-Count.ensures, small _ _ _ _ _ c.in-Count-encoded_length.ensures, run_small c.args.x c.args.y c.args.z c.args.«data».now _ c.in-Count-run_length.ensures)
 
 pub overflow_add-result-in-Count-run_length-3 : goal.overflow_add-result-in-Count-run_length-3
 overflow_add-result-in-Count-run_length-3 c =
-    omega (arith, small 0x0102 c.args.src c.args.sv.now (table c.args.st.now c.args.ss.now c.args.sl.now) _ c.in-Count.ensures, small 0x0103 c.args.dst c.args.dv.now (table c.args.dt.now c.args.ds.now c.args.dl.now) _ c.in-Count-encoded_length.ensures, run_small c.args.x c.args.y c.args.z c.args.«data».now _ c.in-Count-run_length.ensures)
+    omega (arith, small _ _ _ _ _ c.in-Count.ensures, small _ _ _ _ _ c.in-Count-encoded_length.ensures, run_small c.args.x c.args.y c.args.z c.args.«data».now _ c.in-Count-run_length.ensures)
 
 pub returns-in-Refused : goal.returns-in-Refused
 returns-in-Refused c =

@@ -318,6 +318,52 @@ pub placed-behind :
     → Placeable o (length (mid_of at (length d - at) d))
 placed-behind {out} {p} {d} at o os b e room = record { octets = os; encoded = e; fits = omega (arith, lent_length d at, b.same) }
 
+-- Three writings, one behind the other: what each asks, how far each reaches, and what they leave together.
+module _ {o p q whole : Outcome (List ℕ)} (out : List ℕ) (t : Three o p q whole (length out)) where
+  pub one_asked : Placeable o (length out)
+  one_asked = record { octets = t.one; encoded = t.first; fits = omega (arith, t.fits) }
+
+  module _ {a : ℕ} {d : List ℕ} (e : record { answer = accepted a; buffer = d } ≡ deliver o out) where
+    one_wrote : WroteFirst out t.one a d
+    one_wrote = wrote_first out o t.one t.first (omega (arith, t.fits)) e
+
+    pub one_reaches : a ≤ length d
+    one_reaches = omega (arith, one_wrote.place, one_wrote.begun.fits, one_wrote.begun.same)
+
+    pub two_asked : Placeable p (length (mid_of a (length d - a) d))
+    two_asked = placed-behind a p t.two one_wrote.begun t.second (omega (arith, t.fits, one_wrote.place))
+
+    module _ {b : ℕ} {last : List ℕ} (f : record { answer = accepted b; buffer = last } ≡ deliver p (mid_of a (length d - a) d)) where
+      two_wrote : Wrote out t.one d a t.two (accepted b) last
+      two_wrote = wrote a p t.two one_wrote.begun one_wrote.place t.second (omega (arith, t.fits, one_wrote.place)) f
+
+      two_place : length (t.one ++ t.two) ≡ a + b
+      two_place = omega (arith, two_wrote.place, accepted_inj two_wrote.count)
+
+      abbrev behind : List ℕ
+      behind = put_mid a (length d - a) d last
+
+      pub two_fit : a + b ≤ length out
+      two_fit = omega (arith, t.fits, one_wrote.place, accepted_inj two_wrote.count)
+
+      pub two_reach : a + b ≤ length behind
+      two_reach = omega (arith, two_place, two_wrote.begun.fits, two_wrote.begun.same)
+
+      pub three_asked : Placeable q (length (mid_of (a + b) (length behind - (a + b)) behind))
+      three_asked = placed-behind (a + b) q t.three two_wrote.begun t.third (omega (arith, t.fits, one_wrote.place, accepted_inj two_wrote.count))
+
+      module _ {c : ℕ} {end : List ℕ} (g : record { answer = accepted c; buffer = end } ≡ deliver q (mid_of (a + b) (length behind - (a + b)) behind)) where
+        three_wrote : Wrote out (t.one ++ t.two) behind (a + b) t.three (accepted c) end
+        three_wrote = wrote (a + b) q t.three two_wrote.begun two_place t.third (omega (arith, t.fits, one_wrote.place, accepted_inj two_wrote.count)) g
+
+        pub three_fit : (a + b) + c ≤ length out
+        three_fit = omega (arith, t.fits, one_wrote.place, accepted_inj two_wrote.count, accepted_inj three_wrote.count)
+
+        pub three_put : record { answer = accepted ((a + b) + c); buffer = put_mid (a + b) (length behind - (a + b)) behind end } ≡ deliver whole out
+        three_put =
+            delivered ((a + b) + c) three_wrote.begun (omega (arith, three_wrote.place, accepted_inj three_wrote.count))
+            ∙ ap (λ (o : Outcome (List ℕ)). deliver o out) (sym t.all)
+
 -- Octets that were measured, where there is room for them.
 pub placeable : (o : Outcome (List ℕ)) (n room : ℕ) → accepted n ≡ mapped length o → n ≤ room → Placeable o room
 placeable o n room e h = let (os, a, l) = mapped_inv length o (sym e) in record { octets = os; encoded = a; fits = omega arith }

@@ -5,7 +5,7 @@ use lib.ListN.{length, take}
 use lib.Seq.{take_all}
 use borrow.Author.Rules.{rules}
 use Rattle.bcd.proofs.Outcomes.{deliver_refused, deliver-short}
-use Rattle.bcd.proofs.Writing.{Begun}
+use Rattle.bcd.proofs.Writing.{Begun, untouched}
 use Rattle.bcd.proofs.Writing.{delivered as begun-delivered}
 use Rattle.pieces.specs.PointCodes.{codes_octets}
 use Rattle.pieces.proofs.PointCodes.{codes-length, pack_many, pack_few, codes_next}
@@ -17,6 +17,10 @@ returns-then-n-gt16382 c = rw (pack_many c.args.pcs.now c.if-n-gt16382.true) (de
 pub returns-then-out-total : goal.returns-then-out-total
 returns-then-out-total c = rw (pack_few c.args.pcs.now c.if-n-gt16382.false, ← codes-length c.args.pcs.now)
     (deliver-short (codes_octets c.args.pcs.now) c.args.out.now (rw (codes-length c.args.pcs.now) c.if-out-total.true))
+
+pub loop-i-init : goal.loop-i-init
+unfolding codes_octets
+loop-i-init c = (search rules, untouched c.args.out.now)
 
 pub loop-i-preserved : goal.loop-i-preserved
 loop-i-preserved c = let n = c.loop-i.invariant.1.same in

@@ -64,13 +64,13 @@ bounds-first-place c = omega (arith, passed_length c.loop-row.invariant.1, c.if-
 pub loop-row-preserved-then-place-lt7 : goal.loop-row-preserved-then-place-lt7
 loop-row-preserved-then-place-lt7 c =
     let q = next c.args.values.now c.args.tags.now c.args.starts.now c.args.lengths.now c.args.count c.loop-row.row c.loop-row.first c.place_of-place.result c.if-tags-count.false c.if-starts-count.false c.if-lengths-count.false
-    c.loop-row.invariant.1 c.loop-row.invariant.0 c.loop-row-test.true c.if-n-start.false c.if-n-start-2.false c.place_of-place.ensures in
+    c.loop-row.invariant.1 c.loop-row.invariant.0 (omega (arith, c.loop-row-test.true)) c.if-n-start.false c.if-n-start-2.false c.place_of-place.ensures in
     (search rules, q)
 
 pub loop-row-preserved : goal.loop-row-preserved
 loop-row-preserved c =
     let q = next c.args.values.now c.args.tags.now c.args.starts.now c.args.lengths.now c.args.count c.loop-row.row c.loop-row.first c.place_of-place.result c.if-tags-count.false c.if-starts-count.false c.if-lengths-count.false
-    c.loop-row.invariant.1 c.loop-row.invariant.0 c.loop-row-test.true c.if-n-start.false c.if-n-start-2.false c.place_of-place.ensures in
+    c.loop-row.invariant.1 c.loop-row.invariant.0 (omega (arith, c.loop-row-test.true)) c.if-n-start.false c.if-n-start-2.false c.place_of-place.ensures in
     let same = set_out c.loop-row.first c.place_of-place.result (c.loop-row.row - 1) (omega (arith, passed_length c.loop-row.invariant.1, c.if-place-lt7.false)) in
     (search rules, rw same at q)
 

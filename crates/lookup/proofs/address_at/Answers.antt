@@ -38,8 +38,8 @@ move_starts-requires c =
     let small : c.in-At.place.start + length (((valued c.args.values.now c.in-At.place).value)) < 2 ^ 64 = rw (value-length c.args.values.now c.in-At.place inside) (omega (arith, inside)) in
     let octets : Octets (((valued c.args.values.now c.in-At.place).value)) = let values = c.args.values.now in
     value-octets values c.in-At.place (octets-of values (λ i. (c.type_inv.values i).fits)) in
-    let read : listed (verdict_of c.decode-read.result.verdict) c.decode-read.result.address ((let l = c.decode-read.new in table l.1.0 l.1.1.0 l.1.1.1.0)) ≡ list_address (((valued c.args.values.now c.in-At.place).value)) ((table c.args.other_tags.now c.args.other_starts.now c.args.other_lengths.now)) = c.decode-read.ensures ∙ ap (λ (v : List ℕ). list_address v ((table c.args.other_tags.now c.args.other_starts.now c.args.other_lengths.now))) (part_value c.args.values.now c.in-At.place) in
-    let m = moves c.in-At.place.start (((valued c.args.values.now c.in-At.place).value)) ((table c.args.other_tags.now c.args.other_starts.now c.args.other_lengths.now)) _ _ ((let l = c.decode-read.new in table l.1.0 l.1.1.0 l.1.1.1.0)) small octets read in
+    let read : listed (verdict_of c.decode-read.result.verdict) c.decode-read.result.address (table c.decode-read.new.tags c.decode-read.new.starts c.decode-read.new.lengths) ≡ list_address (((valued c.args.values.now c.in-At.place).value)) ((table c.args.other_tags.now c.args.other_starts.now c.args.other_lengths.now)) = c.decode-read.ensures ∙ ap (λ (v : List ℕ). list_address v ((table c.args.other_tags.now c.args.other_starts.now c.args.other_lengths.now))) (part_value c.args.values.now c.in-At.place) in
+    let m = moves c.in-At.place.start (((valued c.args.values.now c.in-At.place).value)) ((table c.args.other_tags.now c.args.other_starts.now c.args.other_lengths.now)) _ _ (table c.decode-read.new.tags c.decode-read.new.starts c.decode-read.new.lengths) small octets read in
     record { count_in_bounds = m.few; all = m.fit }
 
 pub returns-in-Refused : goal.returns-in-Refused
@@ -62,8 +62,8 @@ returns-in-At c =
     let small : c.in-At.place.start + length (((valued c.args.values.now c.in-At.place).value)) < 2 ^ 64 = rw (value-length c.args.values.now c.in-At.place inside) (omega (arith, inside)) in
     let octets : Octets (((valued c.args.values.now c.in-At.place).value)) = let values = c.args.values.now in
     value-octets values c.in-At.place (octets-of values (λ i. (c.type_inv.values i).fits)) in
-    let read : listed (verdict_of c.decode-read.result.verdict) c.decode-read.result.address ((let l = c.decode-read.new in table l.1.0 l.1.1.0 l.1.1.1.0)) ≡ list_address (((valued c.args.values.now c.in-At.place).value)) ((table c.args.other_tags.now c.args.other_starts.now c.args.other_lengths.now)) = c.decode-read.ensures ∙ ap (λ (v : List ℕ). list_address v ((table c.args.other_tags.now c.args.other_starts.now c.args.other_lengths.now))) (part_value c.args.values.now c.in-At.place) in
+    let read : listed (verdict_of c.decode-read.result.verdict) c.decode-read.result.address (table c.decode-read.new.tags c.decode-read.new.starts c.decode-read.new.lengths) ≡ list_address (((valued c.args.values.now c.in-At.place).value)) ((table c.args.other_tags.now c.args.other_starts.now c.args.other_lengths.now)) = c.decode-read.ensures ∙ ap (λ (v : List ℕ). list_address v ((table c.args.other_tags.now c.args.other_starts.now c.args.other_lengths.now))) (part_value c.args.values.now c.in-At.place) in
     let answered : (f : Found) → c.args.found ≡ f → address_found c.args.tag c.args.values.now (found_of f) ((table c.args.other_tags.now c.args.other_starts.now c.args.other_lengths.now)) ≡ address_found c.args.tag c.args.values.now (found_of c.args.found) ((table c.args.other_tags.now c.args.other_starts.now c.args.other_lengths.now)) = λ f e. ap (λ (f : Found). address_found c.args.tag c.args.values.now (found_of f) ((table c.args.other_tags.now c.args.other_starts.now c.args.other_lengths.now))) (sym e) in
-    moved_listed c.in-At.place.start (((valued c.args.values.now c.in-At.place).value)) ((table c.args.other_tags.now c.args.other_starts.now c.args.other_lengths.now)) _ _ ((let l = c.decode-read.new in table l.1.0 l.1.1.0 l.1.1.1.0)) small _ octets read c.move_starts.ensures
+    moved_listed c.in-At.place.start (((valued c.args.values.now c.in-At.place).value)) ((table c.args.other_tags.now c.args.other_starts.now c.args.other_lengths.now)) _ _ (table c.decode-read.new.tags c.decode-read.new.starts c.decode-read.new.lengths) small _ octets read c.move_starts.ensures
     ∙ address-there c.args.tag c.args.values.now c.in-At.place ((table c.args.other_tags.now c.args.other_starts.now c.args.other_lengths.now))
     ∙ answered _ c.in-At.is

@@ -10,7 +10,7 @@ use Rattle.lookup.proofs.Accessing.{find_inside}
 use Rattle.lookup.proofs.first_address.Goals as goal
 
 pub address_at-requires : goal.address_at-requires
-address_at-requires c = find_inside c.args.values.now ((table c.args.tags.now c.args.starts.now c.args.lengths.now)) c.args.count c.args.tag p (sym e ∙ c.find_parameter-found.ensures)
+address_at-requires c = λ p e. find_inside c.args.values.now (table c.args.tags.now c.args.starts.now c.args.lengths.now) c.args.count c.args.tag p (sym e ∙ c.find_parameter-found.ensures)
 
 pub returns : goal.returns
 returns c = let lent = table c.args.other_tags.now c.args.other_starts.now c.args.other_lengths.now in

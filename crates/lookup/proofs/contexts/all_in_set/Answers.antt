@@ -22,7 +22,7 @@ returns-then-not-in_set c =
     ≡ (b && each_in c.args.set.now (drop (c.loop-at.at + 4) c.args.value.now)) = λ b e. c.loop-at.invariant.2
     ∙ all_next c.args.set.now c.args.value.now c.loop-at.at b (omega arith)
     (sym e ∙ c.in_set.ensures ∙ ap (λ (n : ℕ). among n c.args.set.now) c.context_at.ensures) in
-    value_missing c.args.set.now c.args.value.now (next false (not-true _ c.if-not-in_set.true-raw))
+    value_missing c.args.set.now c.args.value.now (next false c.if-not-in_set.true)
 
 pub loop-at-preserved : goal.loop-at-preserved
 loop-at-preserved c =
@@ -30,7 +30,7 @@ loop-at-preserved c =
     ≡ (b && each_in c.args.set.now (drop (c.loop-at.at + 4) c.args.value.now)) = λ b e. c.loop-at.invariant.2
     ∙ all_next c.args.set.now c.args.value.now c.loop-at.at b (omega arith)
     (sym e ∙ c.in_set.ensures ∙ ap (λ (n : ℕ). among n c.args.set.now) c.context_at.ensures) in
-    (omega arith, omega arith, next true (not-false _ c.if-not-in_set.false-raw))
+    (omega arith, omega arith, next true c.if-not-in_set.false)
 
 pub returns : goal.returns
 returns c = value-whole c.args.set.now c.args.value.now c.if-n-ne0.false

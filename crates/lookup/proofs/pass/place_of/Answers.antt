@@ -50,14 +50,13 @@ pub returns-in-259 : goal.returns-in-259
 returns-in-259 c = ap (place_among wanted) (sym c.in-259.is)
 
 pub returns-in_default : goal.returns-in_default
-returns-in_default c = let r = c.in-6.rest in
-    let tag = c.args.tag in
+returns-in_default c = let tag = c.args.tag in
     sym (rw (
-      ne_eqb tag 0x0006 r.0.0.0.0.0.0.1,
-      ne_eqb tag 0x0115 r.0.0.0.0.0.1,
-      ne_eqb tag 0x0116 r.0.0.0.0.1,
-      ne_eqb tag 0x0101 r.0.0.0.1,
-      ne_eqb tag 0x0106 r.0.0.1,
-      ne_eqb tag 0x0102 r.0.1,
-      ne_eqb tag 0x0103 r.1,
+      ne_eqb tag 0x0006 (λ e. absurd (omega arith)),
+      ne_eqb tag 0x0115 (λ e. absurd (omega arith)),
+      ne_eqb tag 0x0116 (λ e. absurd (omega arith)),
+      ne_eqb tag 0x0101 (λ e. absurd (omega arith)),
+      ne_eqb tag 0x0106 (λ e. absurd (omega arith)),
+      ne_eqb tag 0x0102 (λ e. absurd (omega arith)),
+      ne_eqb tag 0x0103 (λ e. absurd (omega arith)),
     ))

@@ -5,7 +5,7 @@ use Rattle.message.proofs.Pairs.{other_octet}
 use Rattle.message.proofs.types.MessageClass.from_u8.Goals as goal
 
 pub returns-in_default : goal.returns-in_default
-returns-in_default c = sym (other_octet c.args.value c.in-0.rest)
+returns-in_default c = sym (other_octet c.args.value c.in_default.in_default-own.rest)
 
 pub returns-in-0 : goal.returns-in-0
 unfolding from_octet

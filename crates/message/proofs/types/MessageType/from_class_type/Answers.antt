@@ -27,4 +27,4 @@ pub returns-in-9 : goal.returns-in-9
 returns-in-9 c = c.rkm.ensures ∙ ap (λ class. from_class_type class c.args.msg_type) (sym c.in-9.is)
 
 pub returns-in_default : goal.returns-in_default
-returns-in_default c = c.unknown.ensures ∙ sym (other_class c.args.class c.args.msg_type c.in-0.rest)
+returns-in_default c = c.unknown.ensures ∙ sym (other_class c.args.class c.args.msg_type c.in_default.in_default-own.rest)

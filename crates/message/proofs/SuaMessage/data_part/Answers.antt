@@ -18,9 +18,3 @@ slice_bounds-result-end c =
 
 pub returns-in-At : goal.returns-in-At
 returns-in-At c = part_value c.args.values.now c.in-At.place ∙ ap (shown c.args.values.now) c.in-At.ensures
-
-pub returns-in-None : goal.returns-in-None
-returns-in-None c = ap (shown c.args.values.now) c.in-None.ensures
-
-pub returns-in-Refused : goal.returns-in-Refused
-returns-in-Refused c = ap (shown c.args.values.now) c.in-Refused.ensures

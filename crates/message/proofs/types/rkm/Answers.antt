@@ -1,23 +1,13 @@
 -- `message::types::rkm` meets its contract: each arm's type has that pair, and no other type of the class has.
-use mathlib.Core.Path.{◌≡◌, refl, sym, ◌∙◌}
+use mathlib.Core.Path.{refl, sym, ◌∙◌}
 use mathlib.Core.List.{[], ◌∷◌}
-use Rattle.bcd.specs.Outcome.{refused}
-use Rattle.message.specs.Types.{from_class_type}
+use borrow.Author.Rules.{rules}
 use Rattle.message.specs.declared.types.MessageType.TheVariants as T
 use Rattle.message.proofs.Pairs.{reads_as, other_type}
 use Rattle.message.proofs.types.rkm.Goals as goal
-use Rattle.message.proofs.types.rkm.Goals.{in-0-1, in_default-1}
 
 pub returns-in-0 : goal.returns-in-0
-unfolding from_class_type
-returns-in-0 c =
-    let t = c.args.msg_type in
-    let none : from_class_type 9 t ≡ refused 4 (9 ∷ t ∷ []) =
-    elim c.in-0-1.branch [
-    in-0-1 w ↦ rw w.in-0-1.keys5
-    | in_default-1 w ↦ other_type 9 t (4 ∷ 3 ∷ 2 ∷ 1 ∷ []) w.in_default-1.rest.0 refl
-    ] in
-    c.unknown.ensures ∙ sym none
+returns-in-0 c = c.unknown.ensures ∙ sym (other_type 9 c.args.msg_type (4 ∷ 3 ∷ 2 ∷ 1 ∷ []) (search rules) refl)
 
 pub returns-in-1 : goal.returns-in-1
 returns-in-1 c = reads_as T.RegReq 9 _ refl c.in-1.is

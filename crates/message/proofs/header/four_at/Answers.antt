@@ -1,7 +1,6 @@
 -- `message::header::four_at` meets its contract.
 use native.Mathlib.Omega.{arith}
 use Rattle.message.proofs.Headers.{four-there}
-use borrow.Author.Rules.{rules}
 use Rattle.message.proofs.header.four_at.Goals as goal
 
 pub returns : goal.returns

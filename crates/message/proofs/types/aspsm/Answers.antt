@@ -1,18 +1,13 @@
 -- `message::types::aspsm` meets its contract: each arm's type has that pair, and no other type of the class has.
 use mathlib.Core.Path.{refl, sym, ◌∙◌}
-use mathlib.Core.Logic.{⊎_elim}
 use mathlib.Core.List.{[], ◌∷◌}
 use borrow.Author.Rules.{rules}
-use Rattle.message.specs.Types.{from_class_type}
 use Rattle.message.specs.declared.types.MessageType.TheVariants as T
 use Rattle.message.proofs.Pairs.{reads_as, other_type}
 use Rattle.message.proofs.types.aspsm.Goals as goal
 
 pub returns-in-0 : goal.returns-in-0
-unfolding from_class_type
-returns-in-0 c = let t = c.args.msg_type in
-    c.unknown.ensures
-    ∙ ⊎_elim (λ w. rw w.keys7) (λ w. sym (other_type 3 t (6 ∷ 5 ∷ 4 ∷ 3 ∷ 2 ∷ 1 ∷ []) w.rest.0 refl)) c.in-1.branch
+returns-in-0 c = c.unknown.ensures ∙ sym (other_type 3 c.args.msg_type (6 ∷ 5 ∷ 4 ∷ 3 ∷ 2 ∷ 1 ∷ []) (search rules) refl)
 
 pub returns-in-1 : goal.returns-in-1
 returns-in-1 c = reads_as T.AspUp 3 _ refl c.in-1.is

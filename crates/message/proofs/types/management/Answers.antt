@@ -7,7 +7,7 @@ use Rattle.message.proofs.Pairs.{reads_as, other_type}
 use Rattle.message.proofs.types.management.Goals as goal
 
 pub returns-in-2-to-255 : goal.returns-in-2-to-255
-returns-in-2-to-255 c = c.unknown.ensures ∙ sym (other_type 0 c.args.msg_type (1 ∷ 0 ∷ []) c.in-0.rest refl)
+returns-in-2-to-255 c = c.unknown.ensures ∙ sym (other_type 0 c.args.msg_type (1 ∷ 0 ∷ []) (search rules) refl)
 
 pub returns-in-0 : goal.returns-in-0
 returns-in-0 c = reads_as T.Error 0 _ refl c.in-0.is

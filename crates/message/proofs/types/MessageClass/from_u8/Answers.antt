@@ -1,11 +1,12 @@
 -- `message::types::MessageClass::from_u8` meets its contract.
 use mathlib.Core.Path.{sym, ap}
+use borrow.Author.Rules.{rules}
 use Rattle.message.specs.Types.{from_octet}
 use Rattle.message.proofs.Pairs.{other_octet}
 use Rattle.message.proofs.types.MessageClass.from_u8.Goals as goal
 
 pub returns-in_default : goal.returns-in_default
-returns-in_default c = sym (other_octet c.args.value c.in-0.rest)
+returns-in_default c = sym (other_octet c.args.value (search rules))
 
 pub returns-in-0 : goal.returns-in-0
 unfolding from_octet

@@ -165,7 +165,7 @@ slice_bounds-put_ssn-count c =
     + c.flag-3.result
     + c.flag-4.result))) in put_mid 1 (length d - 1) d c.put_code.new.out)) = let p = c.args.address in
     put-behind (code_run p) _ 1 indicated refl (omega (arith, room, code-size c.args.octets.now p c.requires)) c.put_code.ensures in
-    omega (arith, coded.ranges, coded.same, sub-place c.args.octets.now c.args.address c.requires, sub_at_lem)
+    omega (arith, coded.fits, coded.same, sub-place c.args.octets.now c.args.address c.requires, sub_at_lem)
 
 pub slice_bounds-put_ssn-start : goal.slice_bounds-put_ssn-start
 slice_bounds-put_ssn-start c =
@@ -192,7 +192,7 @@ slice_bounds-put_ssn-start c =
     + c.flag-3.result
     + c.flag-4.result))) in put_mid 1 (length d - 1) d c.put_code.new.out)) = let p = c.args.address in
     put-behind (code_run p) _ 1 indicated refl (omega (arith, room, code-size c.args.octets.now p c.requires)) c.put_code.ensures in
-    omega (arith, coded.ranges, coded.same, sub-place c.args.octets.now c.args.address c.requires, sub_at_lem)
+    omega (arith, coded.fits, coded.same, sub-place c.args.octets.now c.args.address c.requires, sub_at_lem)
 
 pub put_ssn-requires : goal.put_ssn-requires
 put_ssn-requires c =
@@ -257,7 +257,7 @@ slice_bounds-put_title-count c =
     put_mid at (length d - at) d c.put_ssn.new.out)) = let p = c.args.address in
     put-behind (sub_run p) _ c.behind-ssn_place.result coded (sub-place c.args.octets.now p c.requires ∙ sym sub_at_lem)
     (omega (arith, room, sub_at_lem, sub-size c.args.octets.now p c.requires)) c.put_ssn.ensures in
-    omega (arith, subbed.ranges, subbed.same, title_place_lem c.args.octets.now c.args.address c.requires, title_at_lem)
+    omega (arith, subbed.fits, subbed.same, title_place_lem c.args.octets.now c.args.address c.requires, title_at_lem)
 
 pub slice_bounds-put_title-start : goal.slice_bounds-put_title-start
 slice_bounds-put_title-start c =
@@ -292,7 +292,7 @@ slice_bounds-put_title-start c =
     put_mid at (length d - at) d c.put_ssn.new.out)) = let p = c.args.address in
     put-behind (sub_run p) _ c.behind-ssn_place.result coded (sub-place c.args.octets.now p c.requires ∙ sym sub_at_lem)
     (omega (arith, room, sub_at_lem, sub-size c.args.octets.now p c.requires)) c.put_ssn.ensures in
-    omega (arith, subbed.ranges, subbed.same, title_place_lem c.args.octets.now c.args.address c.requires, title_at_lem)
+    omega (arith, subbed.fits, subbed.same, title_place_lem c.args.octets.now c.args.address c.requires, title_at_lem)
 
 pub put_title-requires : goal.put_title-requires
 put_title-requires c =

@@ -28,7 +28,7 @@ returns-then-not-address_converts c =
     let known : Read c.args.value.now c.in-Parts.parts = let v = c.args.value.now in
     interpreted-read (octets-of v (λ i. (c.type_inv.value i).fits)) (answered _ c.in-Parts.is) in
     let converts_is : (b : Bool) → c.address_converts.result ≡ b → accepted b ≡ mapped converts (read_address built_in c.args.value.now) = λ b e. ap accepted (sym e) ∙ c.address_converts.ensures in
-    refused_unconverted known (converts_is _ (not-true _ c.if-not-address_converts.true-raw))
+    refused_unconverted known (converts_is _ c.if-not-address_converts.true)
 
 pub numbers-requires : goal.numbers-requires
 numbers-requires c =
@@ -36,7 +36,7 @@ numbers-requires c =
     let known : Read c.args.value.now c.in-Parts.parts = let v = c.args.value.now in
     interpreted-read (octets-of v (λ i. (c.type_inv.value i).fits)) (answered _ c.in-Parts.is) in
     let converts_is : (b : Bool) → c.address_converts.result ≡ b → accepted b ≡ mapped converts (read_address built_in c.args.value.now) = λ b e. ap accepted (sym e) ∙ c.address_converts.ensures in
-    record { read = known; value_value = sym (converts_is _ (not-false _ c.if-not-address_converts.false-raw)) }
+    record { read = known; value_value = sym (converts_is _ c.if-not-address_converts.false) }
 
 pub returns-in-Refused : goal.returns-in-Refused
 returns-in-Refused c =

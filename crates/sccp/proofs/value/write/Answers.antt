@@ -60,7 +60,7 @@ slice_bounds-put_title-count c =
     let end_at : c.behind-length.result ≡ value_end c.args.address = c.behind-length.ensures ∙ omega (arith, sub_at_lem) in
     let room : value_end c.args.address ≤ length c.args.out.now = omega (arith, end_at, c.if-out-length.false) in
     let headed : Begun c.args.out.now (head_from c.args.address) c.put_head.new.out = begin c.args.out.now (head_from c.args.address) _ (omega (arith, room)) c.put_head.ensures in
-    omega (arith, headed.ranges, headed.same)
+    omega (arith, headed.fits, headed.same)
 
 pub slice_bounds-put_title-start : goal.slice_bounds-put_title-start
 slice_bounds-put_title-start c =
@@ -69,7 +69,7 @@ slice_bounds-put_title-start c =
     let end_at : c.behind-length.result ≡ value_end c.args.address = c.behind-length.ensures ∙ omega (arith, sub_at_lem) in
     let room : value_end c.args.address ≤ length c.args.out.now = omega (arith, end_at, c.if-out-length.false) in
     let headed : Begun c.args.out.now (head_from c.args.address) c.put_head.new.out = begin c.args.out.now (head_from c.args.address) _ (omega (arith, room)) c.put_head.ensures in
-    omega (arith, headed.ranges, headed.same)
+    omega (arith, headed.fits, headed.same)
 
 pub put_title-requires : goal.put_title-requires
 put_title-requires c =
@@ -94,7 +94,7 @@ slice_bounds-put_four-count c =
     put-behind (run_octets (titles c.args.octets.now p)) _ 4 headed refl
     (omega (arith, room, run_length_lem (titles c.args.octets.now p), titles-size c.args.octets.now p c.requires))
     (title_over c.args.octets.now p c.requires _ _ octets c.put_title.ensures) in
-    omega (arith, titled.ranges, titled.same, code-place c.args.octets.now c.args.address c.requires, code_at_lem)
+    omega (arith, titled.fits, titled.same, code-place c.args.octets.now c.args.address c.requires, code_at_lem)
 
 pub slice_bounds-put_four-start : goal.slice_bounds-put_four-start
 slice_bounds-put_four-start c =
@@ -108,7 +108,7 @@ slice_bounds-put_four-start c =
     put-behind (run_octets (titles c.args.octets.now p)) _ 4 headed refl
     (omega (arith, room, run_length_lem (titles c.args.octets.now p), titles-size c.args.octets.now p c.requires))
     (title_over c.args.octets.now p c.requires _ _ octets c.put_title.ensures) in
-    omega (arith, titled.ranges, titled.same, code-place c.args.octets.now c.args.address c.requires, code_at_lem)
+    omega (arith, titled.fits, titled.same, code-place c.args.octets.now c.args.address c.requires, code_at_lem)
 
 pub put_four-requires : goal.put_four-requires
 put_four-requires c =
@@ -147,7 +147,7 @@ slice_bounds-put_four-count-2 c =
     (c.put_four.ensures
     ∙ ap (λ (v : List ℕ). over (run_octets (pick p.has_point_code (param 0x8002 v ∷ []) [])) lent)
     c.four_octets-code.ensures) in
-    omega (arith, coded.ranges, coded.same, sub-place c.args.octets.now c.args.address c.requires, sub_at_lem)
+    omega (arith, coded.fits, coded.same, sub-place c.args.octets.now c.args.address c.requires, sub_at_lem)
 
 pub slice_bounds-put_four-start-2 : goal.slice_bounds-put_four-start-2
 slice_bounds-put_four-start-2 c =
@@ -172,7 +172,7 @@ slice_bounds-put_four-start-2 c =
     (c.put_four.ensures
     ∙ ap (λ (v : List ℕ). over (run_octets (pick p.has_point_code (param 0x8002 v ∷ []) [])) lent)
     c.four_octets-code.ensures) in
-    omega (arith, coded.ranges, coded.same, sub-place c.args.octets.now c.args.address c.requires, sub_at_lem)
+    omega (arith, coded.fits, coded.same, sub-place c.args.octets.now c.args.address c.requires, sub_at_lem)
 
 pub put_four-requires-2 : goal.put_four-requires-2
 put_four-requires-2 c =

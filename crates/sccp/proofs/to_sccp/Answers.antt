@@ -14,21 +14,13 @@ use Rattle.sccp.proofs.Back.{to_read}
 use Rattle.sccp.proofs.to_sccp.Goals as goal
 
 pub write-requires : goal.write-requires
-write-requires c =
-    let read_as : (r : Converted) → c.read.result ≡ r → ReadAs (read_address built_in c.args.value.now) (to_sccp c.args.value.now) c.args.value.now r = λ r e. subst (ReadAs (read_address built_in c.args.value.now) (to_sccp c.args.value.now) c.args.value.now) e c.read.ensures in
-    let told : Sound c.args.value.now c.in-Address.address
-    × (read_address built_in c.args.value.now ≡ accepted (address_from c.args.value.now c.in-Address.address)) = read_as _ c.in-Address.is in
-    told.0
+write-requires c = c.in-Address.ensures.0
 
 pub returns-in-Refused : goal.returns-in-Refused
 returns-in-Refused c =
-    let read_as : (r : Converted) → c.read.result ≡ r → ReadAs (read_address built_in c.args.value.now) (to_sccp c.args.value.now) c.args.value.now r = λ r e. subst (ReadAs (read_address built_in c.args.value.now) (to_sccp c.args.value.now) c.args.value.now) e c.read.ensures in
-    let e = read_as _ c.in-Refused.is in
-    deliver_refused _ _ c.args.out.now ∙ ap (λ (o : Outcome (List ℕ)). deliver o c.args.out.now) (sym e)
+    deliver_refused _ _ c.args.out.now ∙ ap (λ (o : Outcome (List ℕ)). deliver o c.args.out.now) (sym c.in-Refused.ensures)
 
 pub returns-in-Address : goal.returns-in-Address
 returns-in-Address c =
-    let read_as : (r : Converted) → c.read.result ≡ r → ReadAs (read_address built_in c.args.value.now) (to_sccp c.args.value.now) c.args.value.now r = λ r e. subst (ReadAs (read_address built_in c.args.value.now) (to_sccp c.args.value.now) c.args.value.now) e c.read.ensures in
-    let told : Sound c.args.value.now c.in-Address.address
-    × (read_address built_in c.args.value.now ≡ accepted (address_from c.args.value.now c.in-Address.address)) = read_as _ c.in-Address.is in
+    let told = c.in-Address.ensures in
     c.write.ensures ∙ ap (λ (o : Outcome (List ℕ)). deliver o c.args.out.now) (sym (to_read c.args.value.now _ told.1))

@@ -23,42 +23,39 @@ routes_known n m e h =
 pub returns-then-routing-ne2 : goal.returns-then-routing-ne2
 unfolding two_at
 returns-then-routing-ne2 c =
-    let routed : c.be16-routing.result ≡ two_at c.args.value.now 0 = c.be16-routing.ensures in
-    let e = subst (λ (n : ℕ). routes n ≡ false) routed (unrouted c.be16-routing.result c.if-routing-ne1.true (rw (ne_eqb c.be16-routing.result 2 c.if-routing-ne2.true))) in
+    let n = c.be16-routing.result in
+    let routed : n ≡ two_at c.args.value.now 0 = c.be16-routing.ensures in
+    let e = subst (λ (n : ℕ). routes n ≡ false) routed (unrouted n c.if-routing-ne1.true (rw (ne_eqb n 2 c.if-routing-ne2.true))) in
     plain_known c.requires false (rw e)
 
 pub returns-then-bits-title : goal.returns-then-bits-title
 unfolding two_at
 returns-then-bits-title c =
-    let routed : c.be16-routing.result ≡ two_at c.args.value.now 0 = c.be16-routing.ensures in
-    let routing = routes_known _ _ routed c.else-routing-ne1.either in
-    plain_known c.requires false (rw (routing, differ (bit 4 ((get_or c.args.value.now 3 0))) (is_kept c.args.parts.title) c.if-bits-title.true))
+    let routing = routes_known _ (two_at c.args.value.now 0) c.be16-routing.ensures c.else-routing-ne1.either in
+    plain_known c.requires false (rw (routing, differ (bit 4 (get_or c.args.value.now 3 0)) (is_kept c.args.parts.title) c.if-bits-title.true))
 
 pub returns-then-bits-code : goal.returns-then-bits-code
 unfolding two_at
 returns-then-bits-code c =
-    let routed : c.be16-routing.result ≡ two_at c.args.value.now 0 = c.be16-routing.ensures in
-    let routing = routes_known _ _ routed c.else-routing-ne1.either in
-    let title_same : same (bit 4 ((get_or c.args.value.now 3 0))) (is_kept c.args.parts.title) ≡ true = agree (bit 4 ((get_or c.args.value.now 3 0))) (is_kept c.args.parts.title) c.if-bits-title.false in
-    let t = differ (bit 2 ((get_or c.args.value.now 3 0))) (is_kept c.args.parts.code) c.if-bits-code.true in
+    let routing = routes_known _ (two_at c.args.value.now 0) c.be16-routing.ensures c.else-routing-ne1.either in
+    let title_same = agree (bit 4 (get_or c.args.value.now 3 0)) (is_kept c.args.parts.title) c.if-bits-title.false in
+    let t = differ (bit 2 (get_or c.args.value.now 3 0)) (is_kept c.args.parts.code) c.if-bits-code.true in
     plain_known c.requires false (rw (routing, title_same, t))
 
 pub returns-then-bits-ssn : goal.returns-then-bits-ssn
 unfolding two_at
 returns-then-bits-ssn c =
-    let routed : c.be16-routing.result ≡ two_at c.args.value.now 0 = c.be16-routing.ensures in
-    let routing = routes_known _ _ routed c.else-routing-ne1.either in
-    let title_same : same (bit 4 ((get_or c.args.value.now 3 0))) (is_kept c.args.parts.title) ≡ true = agree (bit 4 ((get_or c.args.value.now 3 0))) (is_kept c.args.parts.title) c.if-bits-title.false in
-    let code_same : same (bit 2 ((get_or c.args.value.now 3 0))) (is_kept c.args.parts.code) ≡ true = agree (bit 2 ((get_or c.args.value.now 3 0))) (is_kept c.args.parts.code) c.if-bits-code.false in
+    let routing = routes_known _ (two_at c.args.value.now 0) c.be16-routing.ensures c.else-routing-ne1.either in
+    let title_same = agree (bit 4 (get_or c.args.value.now 3 0)) (is_kept c.args.parts.title) c.if-bits-title.false in
+    let code_same = agree (bit 2 (get_or c.args.value.now 3 0)) (is_kept c.args.parts.code) c.if-bits-code.false in
     let t = differ (eqb ((get_or c.args.value.now 3 0) % 2) 1) (is_kept c.args.parts.ssn) c.if-bits-ssn.true in
-    plain_known c.requires false (rw (routing, title_same, code_same, ← bit_one ((get_or c.args.value.now 3 0)), t))
+    plain_known c.requires false (rw (routing, title_same, code_same, ← bit_one (get_or c.args.value.now 3 0), t))
 
 pub returns : goal.returns
 unfolding two_at
 returns c =
-    let routed : c.be16-routing.result ≡ two_at c.args.value.now 0 = c.be16-routing.ensures in
-    let routing = routes_known _ _ routed c.else-routing-ne1.either in
-    let title_same : same (bit 4 ((get_or c.args.value.now 3 0))) (is_kept c.args.parts.title) ≡ true = agree (bit 4 ((get_or c.args.value.now 3 0))) (is_kept c.args.parts.title) c.if-bits-title.false in
-    let code_same : same (bit 2 ((get_or c.args.value.now 3 0))) (is_kept c.args.parts.code) ≡ true = agree (bit 2 ((get_or c.args.value.now 3 0))) (is_kept c.args.parts.code) c.if-bits-code.false in
+    let routing = routes_known _ (two_at c.args.value.now 0) c.be16-routing.ensures c.else-routing-ne1.either in
+    let title_same = agree (bit 4 (get_or c.args.value.now 3 0)) (is_kept c.args.parts.title) c.if-bits-title.false in
+    let code_same = agree (bit 2 (get_or c.args.value.now 3 0)) (is_kept c.args.parts.code) c.if-bits-code.false in
     let t = agree (eqb ((get_or c.args.value.now 3 0) % 2) 1) (is_kept c.args.parts.ssn) c.if-bits-ssn.false in
-    plain_known c.requires _ (rw (routing, title_same, code_same, ← bit_one ((get_or c.args.value.now 3 0)), t))
+    plain_known c.requires _ (rw (routing, title_same, code_same, ← bit_one (get_or c.args.value.now 3 0), t))

@@ -1,13 +1,9 @@
 -- `sccp::from_sccp` meets its contract.
-use borrow.Author.Rules.{rules}
-use mathlib.Core.Path.{◌≡◌, sym, ap, ◌∙◌, subst}
+use mathlib.Core.Path.{sym, ap, ◌∙◌}
 use mathlib.Core.List.{List}
 use Prim.Native.Nat.{ℕ}
-use Rattle.bcd.specs.Outcome.{Outcome, accepted, deliver}
+use Rattle.bcd.specs.Outcome.{Outcome, deliver}
 use Rattle.bcd.proofs.Outcomes.{deliver_refused}
-use Rattle.sccp.specs.Sccp.{sccp_in, from_sccp}
-use Rattle.sccp.specs.Steps.{address_from, Sound, ReadAs}
-use Rattle.sccp.specs.declared.common.Converted.{Converted}
 use Rattle.sccp.proofs.Back.{from_party}
 use Rattle.sccp.proofs.from_sccp.Goals as goal
 

@@ -1,15 +1,9 @@
 -- `sccp::to_sccp` meets its contract.
-use borrow.Author.Rules.{rules}
-use mathlib.Core.Path.{◌≡◌, sym, ap, ◌∙◌, subst}
+use mathlib.Core.Path.{sym, ap, ◌∙◌}
 use mathlib.Core.List.{List}
 use Prim.Native.Nat.{ℕ}
-use Rattle.bcd.specs.Outcome.{Outcome, accepted, deliver}
-use Rattle.bcd.specs.Digits.{built_in}
+use Rattle.bcd.specs.Outcome.{Outcome, deliver}
 use Rattle.bcd.proofs.Outcomes.{deliver_refused}
-use Rattle.address.specs.Address.{read_address}
-use Rattle.sccp.specs.Sccp.{to_sccp}
-use Rattle.sccp.specs.Steps.{address_from, Sound, ReadAs}
-use Rattle.sccp.specs.declared.common.Converted.{Converted}
 use Rattle.sccp.proofs.Back.{to_read}
 use Rattle.sccp.proofs.to_sccp.Goals as goal
 

@@ -8,7 +8,6 @@ use Rattle.bcd.specs.Digits.{built_in, read_digits, write_digits}
 use Rattle.bcd.specs.declared.error.Counted.{Counted}
 use Rattle.bcd.proofs.Outcomes.{octets-of}
 use Rattle.sccp.proofs.Known.{counted-known, refused_unknown}
-use borrow.Author.Rules.{rules}
 use Rattle.sccp.proofs.common.known.Goals as goal
 
 pub returns-in-Count : goal.returns-in-Count

@@ -1,8 +1,7 @@
 -- `sccp::party::converts` meets its contract.
-use Prim.Native.Nat.{ℕ, ◌%◌, ◌≤◌}
+use Prim.Native.Nat.{◌%◌, ◌≤◌}
 use mathlib.Core.Path.{◌≡◌, subst}
 use native.Mathlib.Omega.{arith}
-use mathlib.Core.List.{List}
 use lib.Dec.{eqb}
 use lib.ListN.{length, get_or}
 use Rattle.bcd.specs.Outcome.{pick}
@@ -10,7 +9,6 @@ use Rattle.address.specs.Address.{bit}
 use Rattle.sccp.specs.Steps.{title_place, code_at}
 use Rattle.sccp.proofs.Writing.{pick-most}
 use Rattle.sccp.proofs.PartyTests.{party_none, party_reserved, party_early, party_coded, title_placed, code_read, party_untitled, party_titled, party_unknown}
-use borrow.Author.Rules.{rules}
 use Rattle.sccp.proofs.party.converts.Goals as goal
 
 pub returns-then-n-lt1 : goal.returns-then-n-lt1

@@ -1,7 +1,6 @@
 -- `sccp::party::numbers` meets its contract.
-use Prim.Native.Nat.{ℕ, ◌%◌}
+use Prim.Native.Nat.{◌%◌}
 use mathlib.Core.Path.{◌≡◌, sym, subst}
-use mathlib.Core.List.{List}
 use native.Mathlib.Omega.{arith}
 use lib.Dec.{eqb}
 use lib.ListN.{get_or}
@@ -11,7 +10,6 @@ use Rattle.sccp.specs.Steps.{sub_place, title_place, code_at, HasTitle}
 use Rattle.sccp.proofs.Writing.{pick-most}
 use Rattle.sccp.proofs.PartyTests.{sub-placed, title_placed, code_read}
 use Rattle.sccp.proofs.PartyReading.{IsParty, party_inv, title_has, numbers-made}
-use borrow.Author.Rules.{rules}
 use Rattle.sccp.proofs.party.numbers.Goals as goal
 
 pub bounds-octets-0 : goal.bounds-octets-0

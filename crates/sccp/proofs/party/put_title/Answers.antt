@@ -1,10 +1,9 @@
 -- `sccp::party::put_title` meets its contract.
-use borrow.Author.Rules.{rules, Below-set}
+use borrow.Author.Rules.{Below-set}
 use borrow.Rule.Slice.PartMut.{mid_of, put_mid}
-use Prim.Native.Nat.{ℕ, ◌+◌, ◌*◌, ◌/◌, ◌%◌, ◌-◌, ◌≤◌}
+use Prim.Native.Nat.{◌+◌, ◌*◌, ◌/◌, ◌%◌, ◌-◌, ◌≤◌}
 use mathlib.Core.Path.{◌≡◌}
 use mathlib.Core.Bool.{true}
-use mathlib.Core.List.{List}
 use native.Mathlib.Omega.{arith}
 use lib.ListN.{length, set, length-set}
 use Rattle.bcd.specs.Outcome.{Octets}

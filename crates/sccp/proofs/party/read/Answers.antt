@@ -1,9 +1,7 @@
 -- `sccp::party::read` meets its contract.
 use mathlib.Core.Path.{◌∙◌, sym}
-use borrow.Author.Tests.{not-true, not-false}
 use Rattle.bcd.proofs.Outcomes.{octets-of}
 use Rattle.sccp.proofs.PartyReading.{read_beyond, read-invalid, read_party}
-use borrow.Author.Rules.{rules}
 use Rattle.sccp.proofs.party.read.Goals as goal
 
 pub returns-then-n-gt1048576 : goal.returns-then-n-gt1048576

@@ -1,15 +1,8 @@
 -- `sccp::value::address_converts` meets its contract.
-use borrow.Author.Rules.{rules}
-use mathlib.Core.Path.{◌≡◌, refl, sym, ap, ◌∙◌}
-use mathlib.Core.Bool.{Bool, true, false}
-use borrow.Author.Tests.{not-true, not-false}
-use Rattle.bcd.specs.Outcome.{accepted, mapped}
-use Rattle.bcd.specs.Digits.{built_in}
-use Rattle.address.specs.Address.{read_address}
-use Rattle.address.specs.Steps.Kept.{kept_title}
+use mathlib.Core.Path.{refl, sym, ap, ◌∙◌}
+use mathlib.Core.Bool.{true, false}
+use Rattle.bcd.specs.Outcome.{accepted}
 use Rattle.address.proofs.Planning.{sound}
-use Rattle.sccp.specs.Sccp.{absent_or, title_converts}
-use Rattle.sccp.specs.Steps.{is_plain}
 use Rattle.sccp.proofs.ValueReading.{converts-known}
 use Rattle.sccp.proofs.value.address_converts.Goals as goal
 

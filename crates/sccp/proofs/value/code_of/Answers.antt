@@ -1,5 +1,4 @@
 -- `sccp::value::code_of` meets its contract.
-use borrow.Author.Rules.{rules}
 use borrow.Author.Tests.{lt-ltb}
 use native.Mathlib.Omega.{arith}
 use Rattle.sccp.proofs.ValueNumbers.{Lies, code-told, absent_number}

@@ -1,5 +1,4 @@
 -- `sccp::value::numbers` meets its contract.
-use borrow.Author.Rules.{rules}
 use Rattle.address.proofs.Planning.{sound}
 use Rattle.sccp.proofs.ValueReading.{Converting, converting, numbers-told, numbers_sound}
 use Rattle.sccp.proofs.value.numbers.Goals as goal

@@ -1,5 +1,4 @@
 -- `sccp::value::plain` meets its contract.
-use borrow.Author.Rules.{rules}
 use Prim.Native.Nat.{ℕ, ◌%◌}
 use mathlib.Core.Path.{◌≡◌, subst}
 use borrow.Author.Tests.{ne_eqb, eq-eqb}
@@ -10,7 +9,7 @@ use lib.ListN.{get_or}
 use Rattle.parameter.specs.Parameter.{two_at}
 use Rattle.address.specs.Address.{bit}
 use Rattle.address.specs.Parts.{is_kept}
-use Rattle.sccp.specs.Sccp.{same, routes}
+use Rattle.sccp.specs.Sccp.{routes}
 use Rattle.sccp.proofs.PartyTests.{bit_one}
 use Rattle.sccp.proofs.ValueReading.{differ, agree, unrouted, routed_one, routed_two, plain_known}
 use Rattle.sccp.proofs.value.plain.Goals as goal

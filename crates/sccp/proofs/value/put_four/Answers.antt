@@ -2,7 +2,7 @@
 use borrow.Author.Rules.{rules}
 use mathlib.Core.Path.{◌≡◌}
 use lib.ListN.{length}
-use Rattle.parameter.specs.Parameter.{Param, param}
+use Rattle.parameter.specs.Parameter.{param}
 use Rattle.sccp.proofs.ValueWriting.{four-put, four_absent}
 use Rattle.sccp.proofs.value.put_four.Goals as goal
 

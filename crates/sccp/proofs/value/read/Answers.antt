@@ -1,17 +1,8 @@
 -- `sccp::value::read` meets its contract.
-use borrow.Author.Rules.{rules}
-use mathlib.Core.Path.{◌≡◌, sym, ap, ◌∙◌}
-use mathlib.Core.Bool.{Bool}
-use borrow.Author.Tests.{not-true, not-false}
-use Rattle.bcd.specs.Outcome.{accepted, mapped}
-use Rattle.bcd.specs.Digits.{built_in}
+use mathlib.Core.Path.{sym, ap, ◌∙◌}
+use Rattle.bcd.specs.Outcome.{accepted}
 use Rattle.bcd.proofs.Outcomes.{octets-of}
-use Rattle.address.specs.Address.{read_address}
-use Rattle.address.specs.Parts.{surveyed_of, interpreted}
-use Rattle.address.specs.Steps.Plan.{Read}
-use Rattle.address.specs.declared.parts.Surveyed.{Surveyed}
 use Rattle.address.proofs.Interpreted.{interpreted-read}
-use Rattle.sccp.specs.Sccp.{converts}
 use Rattle.sccp.proofs.ValueReading.{refused_unread, refused_unconverted}
 use Rattle.sccp.proofs.value.read.Goals as goal
 

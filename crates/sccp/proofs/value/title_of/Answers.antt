@@ -1,5 +1,4 @@
 -- `sccp::value::title_of` meets its contract.
-use borrow.Author.Rules.{rules}
 use Prim.Native.Nat.{◌+◌}
 use borrow.Author.Tests.{lt-ltb}
 use native.Mathlib.Omega.{arith}

@@ -47,8 +47,8 @@ summed p e f g h = omega (arith, e, f, g, h)
 
 -- The buffer after the first octet, and after each part that a writer put behind it.
 module _
-  {xs : List ℕ} {p : Common} {sub title end : ℕ}
-  (s : Sound xs p) (w : Placed p sub title end) (out : List ℕ) (room : end ≤ length out) where
+    {xs : List ℕ} {p : Common} {sub title end : ℕ}
+    (s : Sound xs p) (w : Placed p sub title end) (out : List ℕ) (room : end ≤ length out) where
   module _ {i : ℕ} (is : i ≡ first_octet p) where
     abbrev first : List ℕ
     first = set out 0 i
@@ -87,7 +87,7 @@ module _
             {c : List ℕ}
             → Octets xs
             → accepted c
-              ≡ mapped (λ os. over os (mid_of title (length third - title) third)) (title_octets (flagged p.has_title (title_from xs p.title)))
+            ≡ mapped (λ os. over os (mid_of title (length third - title) third)) (title_octets (flagged p.has_title (title_from xs p.title)))
             → Begun out (up_to_sub p ++ last_run xs p) (put_mid title (length third - title) third c)
         titled {c} o put_c =
             put-behind (last_run xs p) c title subbed (title_place_lem xs p s ∙ sym w.title_is)

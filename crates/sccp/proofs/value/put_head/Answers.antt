@@ -39,7 +39,7 @@ returns c =
     let by : Bool → ℕ = λ b. pick b 1 2 in
     let p = c.args.address in
     let routing : c.if-address.out ≡ pick p.on_title 1 2 = elim c.if-address.branch [
-      then-address w ↦ w.out-is ∙ ap by (sym w.if-address.true)
+      | then-address w ↦ w.out-is ∙ ap by (sym w.if-address.true)
       | else-address w ↦ w.out-is ∙ ap by (sym w.if-address.false)
     ] in
     head_put p c.args.out.now c.if-address.out _ c.requires routing (omega (arith, c.flag.ensures, c.flag-2.ensures, c.flag-3.ensures))

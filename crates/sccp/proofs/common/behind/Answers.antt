@@ -1,6 +1,5 @@
 -- `sccp::common::behind` meets its contract.
 use native.Mathlib.Omega.{arith}
-use borrow.Author.Rules.{rules}
 use Rattle.sccp.proofs.common.behind.Goals as goal
 
 pub returns-then-there : goal.returns-then-there

@@ -4,7 +4,6 @@ use mathlib.Core.Path.{sym}
 use native.Mathlib.Omega.{arith}
 use lib.Seq.{length-take-le}
 use Rattle.sccp.proofs.Copying.{even_copied, odd_copied}
-use borrow.Author.Rules.{rules}
 use Rattle.sccp.proofs.common.copy_digits.Goals as goal
 
 pub slice_bounds-copy-end : goal.slice_bounds-copy-end

@@ -1,6 +1,5 @@
 -- `sccp::party::code_in` meets its contract.
 use native.Mathlib.Omega.{arith}
-use borrow.Author.Rules.{rules}
 use Rattle.sccp.proofs.party.code_in.Goals as goal
 
 pub bounds-octets-2 : goal.bounds-octets-2

@@ -1,6 +1,5 @@
 -- `sccp::party::digits_convert` meets its contract.
 use Rattle.sccp.proofs.PartyTests.{odd_none, odd_many, odd_filled, odd_known, even_many, even_known, scheme_none}
-use borrow.Author.Rules.{rules}
 use Rattle.sccp.proofs.party.digits_convert.Goals as goal
 
 pub returns-then-n-lt1 : goal.returns-then-n-lt1

@@ -1,5 +1,5 @@
 -- `sccp::party::put_code` meets its contract.
-use borrow.Author.Rules.{rules, Below-set}
+use borrow.Author.Rules.{Below-set}
 use Prim.Native.Nat.{◌%◌, ◌≤◌}
 use native.Mathlib.Omega.{arith}
 use lib.ListN.{length}

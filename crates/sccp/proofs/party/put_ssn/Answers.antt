@@ -1,5 +1,4 @@
 -- `sccp::party::put_ssn` meets its contract.
-use borrow.Author.Rules.{rules}
 use Prim.Native.Nat.{◌≤◌}
 use native.Mathlib.Omega.{arith}
 use lib.ListN.{length}

@@ -1,30 +1,25 @@
 -- `sccp::party::put_title` meets its contract.
-use borrow.Author.Rules.{rules, Below-set}
-use borrow.Rule.Slice.PartMut.{mid_of, put_mid}
-use Prim.Native.Nat.{ℕ, ◌+◌, ◌*◌, ◌/◌, ◌%◌, ◌-◌, ◌≤◌}
+use borrow.Author.Rules.{Below-set}
+use Prim.Native.Nat.{◌+◌, ◌*◌, ◌/◌, ◌%◌, ◌-◌, ◌≤◌}
 use mathlib.Core.Path.{◌≡◌}
 use mathlib.Core.Bool.{true}
-use mathlib.Core.List.{List}
 use native.Mathlib.Omega.{arith}
 use lib.ListN.{length, set, length-set}
 use Rattle.bcd.specs.Outcome.{Octets}
-use Rattle.bcd.proofs.Writing.{Begun}
 use Rattle.bcd.proofs.Outcomes.{octets-of}
-use Rattle.parameter.specs.Table.{over}
 use Rattle.address.proofs.Copying.{lent_length}
-use Rattle.sccp.proofs.Writing.{packed, digits_copied, part_halves, part_short, picked}
-use Rattle.sccp.proofs.PartyWriting.{title_run, fronted, title_begun, title_put, title_absent}
+use Rattle.sccp.proofs.Writing.{digits_copied, part_halves, part_short, picked}
+use Rattle.sccp.proofs.PartyWriting.{fronted, title_begun, title_put, title_absent}
 use Rattle.sccp.proofs.party.put_title.Goals as goal
 
 pub bounds-out-0 : goal.bounds-out-0
 bounds-out-0 c =
     let room : 3 + (c.args.title.count + 1) / 2 ≤ length c.args.out.now = picked c.args.there _ _ c.if-there.true c.requires.count_in_bounds in
-    let r = room in omega arith
+    omega arith
 
 pub bounds-out-1 : goal.bounds-out-1
 bounds-out-1 c =
     let room : 3 + (c.args.title.count + 1) / 2 ≤ length c.args.out.now = picked c.args.there _ _ c.if-there.true c.requires.count_in_bounds in
-    let r = room in
     Below-set _ c.args.out.now 1 0 c.args.title.translation_type (omega arith)
 
 pub bounds-out-2 : goal.bounds-out-2
@@ -32,44 +27,43 @@ bounds-out-2 c =
     let room : 3 + (c.args.title.count + 1) / 2 ≤ length c.args.out.now = picked c.args.there _ _ c.if-there.true c.requires.count_in_bounds in
     let t = c.args.title in
     let out = c.args.out.now in
-    let r = room in
     Below-set _ (set out 0 t.translation_type) 2 1 (t.numbering_plan * 16 + (2 - t.count % 2))
     (Below-set _ out 2 0 t.translation_type (omega arith))
 
 pub slice_bounds-copy_digits-count-then-there : goal.slice_bounds-copy_digits-count-then-there
 slice_bounds-copy_digits-count-then-there c =
     let room : 3 + (c.args.title.count + 1) / 2 ≤ length c.args.out.now = picked c.args.there _ _ c.if-there.true c.requires.count_in_bounds in
-    let stored : length ((fronted c.args.octets.now c.args.title c.requires.sound_title c.args.out.now room)) ≡ length c.args.out.now = simp length-set in
-    let r = room in let l = stored in omega arith
+    let stored : length (fronted c.args.octets.now c.args.title c.requires.sound_title c.args.out.now room) ≡ length c.args.out.now = simp length-set in
+    omega arith
 
 pub slice_bounds-copy_digits-start-then-there : goal.slice_bounds-copy_digits-start-then-there
 slice_bounds-copy_digits-start-then-there c =
     let room : 3 + (c.args.title.count + 1) / 2 ≤ length c.args.out.now = picked c.args.there _ _ c.if-there.true c.requires.count_in_bounds in
-    let stored : length ((fronted c.args.octets.now c.args.title c.requires.sound_title c.args.out.now room)) ≡ length c.args.out.now = simp length-set in
-    let r = room in let l = stored in omega arith
+    let stored : length (fronted c.args.octets.now c.args.title c.requires.sound_title c.args.out.now room) ≡ length c.args.out.now = simp length-set in
+    omega arith
 
 pub copy_digits-requires : goal.copy_digits-requires
 copy_digits-requires c =
     let room : 3 + (c.args.title.count + 1) / 2 ≤ length c.args.out.now = picked c.args.there _ _ c.if-there.true c.requires.count_in_bounds in
-    let stored : length ((fronted c.args.octets.now c.args.title c.requires.sound_title c.args.out.now room)) ≡ length c.args.out.now = simp length-set in
+    let stored : length (fronted c.args.octets.now c.args.title c.requires.sound_title c.args.out.now room) ≡ length c.args.out.now = simp length-set in
     let xs = c.args.octets.now in
     let t = c.args.title in
-    let r = room in
-    let l = stored in
-    record { count_bound = part_halves xs t c.requires.sound_title; octets_len_bound = part_short xs t.start _ c.requires.octets_len_bound; count_in_bounds = omega (arith, lent_length ((fronted c.args.octets.now c.args.title c.requires.sound_title c.args.out.now room)) 3) }
+    record {
+      count_bound = part_halves xs t c.requires.sound_title;
+      octets_len_bound = part_short xs t.start _ c.requires.octets_len_bound;
+      count_in_bounds = omega (arith, lent_length (fronted c.args.octets.now c.args.title c.requires.sound_title c.args.out.now room) 3);
+    }
 
 pub shape_of-out : goal.shape_of-out
 shape_of-out c =
     let room : 3 + (c.args.title.count + 1) / 2 ≤ length c.args.out.now = picked c.args.there _ _ c.if-there.true c.requires.count_in_bounds in
-    let copied : c.copy_digits.new.out ≡ over ((packed c.args.octets.now c.args.title)) (mid_of 3 (length ((fronted c.args.octets.now c.args.title c.requires.sound_title c.args.out.now room)) - 3) ((fronted c.args.octets.now c.args.title c.requires.sound_title c.args.out.now room))) = digits_copied c.args.octets.now c.args.title c.requires.sound_title _ _ c.copy_digits.ensures in
-    let written : Begun c.args.out.now (title_run c.args.octets.now true c.args.title)
-    (put_mid 3 (length ((fronted c.args.octets.now c.args.title c.requires.sound_title c.args.out.now room)) - 3) ((fronted c.args.octets.now c.args.title c.requires.sound_title c.args.out.now room)) c.copy_digits.new.out) = title_begun c.args.octets.now c.args.title c.requires.sound_title c.args.out.now room _ copied in
-    written.same
+    let copied = digits_copied c.args.octets.now c.args.title c.requires.sound_title _ _ c.copy_digits.ensures in
+    (title_begun c.args.octets.now c.args.title c.requires.sound_title c.args.out.now room _ copied).same
 
 pub returns-then-there : goal.returns-then-there
 returns-then-there c =
     let room : 3 + (c.args.title.count + 1) / 2 ≤ length c.args.out.now = picked c.args.there _ _ c.if-there.true c.requires.count_in_bounds in
-    let copied : c.copy_digits.new.out ≡ over ((packed c.args.octets.now c.args.title)) (mid_of 3 (length ((fronted c.args.octets.now c.args.title c.requires.sound_title c.args.out.now room)) - 3) ((fronted c.args.octets.now c.args.title c.requires.sound_title c.args.out.now room))) = digits_copied c.args.octets.now c.args.title c.requires.sound_title _ _ c.copy_digits.ensures in
+    let copied = digits_copied c.args.octets.now c.args.title c.requires.sound_title _ _ c.copy_digits.ensures in
     let octets : Octets c.args.octets.now = octets-of c.args.octets.now (λ i. (c.type_inv.octets i).fits) in
     title_put c.args.octets.now c.args.title c.requires.sound_title c.args.out.now room _ copied c.args.there octets
     c.if-there.true

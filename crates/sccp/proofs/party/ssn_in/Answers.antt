@@ -1,6 +1,5 @@
 -- `sccp::party::ssn_in` meets its contract.
 use native.Mathlib.Omega.{arith}
-use borrow.Author.Rules.{rules}
 use Rattle.sccp.proofs.party.ssn_in.Goals as goal
 
 pub bounds-octets-place : goal.bounds-octets-place

@@ -6,7 +6,6 @@ use Rattle.address.proofs.Planning.{whole_part}
 use Rattle.sccp.specs.Sccp.{digits_of}
 use Rattle.sccp.specs.Steps.{converted}
 use Rattle.sccp.proofs.PartyTests.{title_early, title_natured, title_digits}
-use borrow.Author.Rules.{rules}
 use Rattle.sccp.proofs.party.title_converts.Goals as goal
 
 pub returns-then-octets-lt3 : goal.returns-then-octets-lt3

@@ -1,6 +1,5 @@
 -- `sccp::party::title_in` meets its contract.
 use native.Mathlib.Omega.{arith}
-use borrow.Author.Rules.{rules}
 use Rattle.sccp.proofs.party.title_in.Goals as goal
 
 pub bounds-octets-place : goal.bounds-octets-place

@@ -1,39 +1,27 @@
 -- `sccp::value::address_converts` meets its contract.
-use borrow.Author.Rules.{rules}
-use mathlib.Core.Path.{◌≡◌, refl, sym, ap, ◌∙◌}
-use mathlib.Core.Bool.{Bool, true, false}
-use borrow.Author.Tests.{not-true, not-false}
-use Rattle.bcd.specs.Outcome.{accepted, mapped}
-use Rattle.bcd.specs.Digits.{built_in}
-use Rattle.address.specs.Address.{read_address}
-use Rattle.address.specs.Steps.Kept.{kept_title}
+use mathlib.Core.Path.{refl, sym, ap, ◌∙◌}
+use mathlib.Core.Bool.{true, false}
+use Rattle.bcd.specs.Outcome.{accepted}
 use Rattle.address.proofs.Planning.{sound}
-use Rattle.sccp.specs.Sccp.{absent_or, title_converts}
-use Rattle.sccp.specs.Steps.{is_plain}
 use Rattle.sccp.proofs.ValueReading.{converts-known}
 use Rattle.sccp.proofs.value.address_converts.Goals as goal
 
 pub returns-then-not-plain : goal.returns-then-not-plain
 returns-then-not-plain c =
-    let plain_is : (b : Bool) → c.plain.result ≡ b → accepted b ≡ mapped is_plain (read_address built_in c.args.value.now) = λ b e. ap accepted (sym e) ∙ c.plain.ensures in
-    converts-known c.requires false _ _ (plain_is false (not-true _ c.if-not-plain.true-raw)) refl refl
+    converts-known c.requires false _ _ (ap accepted (sym c.if-not-plain.true) ∙ c.plain.ensures) refl refl
 
 pub kept_title_converts-requires : goal.kept_title_converts-requires
 kept_title_converts-requires c = let r = c.requires in record { held_in = (sound r.known r.whole).title; value_len_bound = r.known.within }
 
 pub returns-then-not-kept_title_converts : goal.returns-then-not-kept_title_converts
 returns-then-not-kept_title_converts c =
-    let plain_is : (b : Bool) → c.plain.result ≡ b → accepted b ≡ mapped is_plain (read_address built_in c.args.value.now) = λ b e. ap accepted (sym e) ∙ c.plain.ensures in
-    let title_is : (b : Bool) → c.kept_title_converts.result ≡ b → b ≡ absent_or title_converts (kept_title built_in c.args.value.now c.args.parts.title) = λ b e. sym e ∙ c.kept_title_converts.ensures in
-    converts-known c.requires true false _ (plain_is true (not-false _ c.if-not-plain.false-raw))
-    (title_is false (not-true _ c.if-not-kept_title_converts.true-raw)) refl
+    converts-known c.requires true false _ (ap accepted (sym c.if-not-plain.false) ∙ c.plain.ensures)
+    (sym c.if-not-kept_title_converts.true ∙ c.kept_title_converts.ensures) refl
 
 pub code_converts-requires : goal.code_converts-requires
 code_converts-requires c = let r = c.requires in (sound r.known r.whole).code
 
 pub returns : goal.returns
 returns c =
-    let plain_is : (b : Bool) → c.plain.result ≡ b → accepted b ≡ mapped is_plain (read_address built_in c.args.value.now) = λ b e. ap accepted (sym e) ∙ c.plain.ensures in
-    let title_is : (b : Bool) → c.kept_title_converts.result ≡ b → b ≡ absent_or title_converts (kept_title built_in c.args.value.now c.args.parts.title) = λ b e. sym e ∙ c.kept_title_converts.ensures in
-    converts-known c.requires true true _ (plain_is true (not-false _ c.if-not-plain.false-raw))
-    (title_is true (not-false _ c.if-not-kept_title_converts.false-raw)) c.code_converts.ensures
+    converts-known c.requires true true _ (ap accepted (sym c.if-not-plain.false) ∙ c.plain.ensures)
+    (sym c.if-not-kept_title_converts.false ∙ c.kept_title_converts.ensures) c.code_converts.ensures

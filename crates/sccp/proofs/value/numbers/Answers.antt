@@ -1,5 +1,4 @@
 -- `sccp::value::numbers` meets its contract.
-use borrow.Author.Rules.{rules}
 use Rattle.address.proofs.Planning.{sound}
 use Rattle.sccp.proofs.ValueReading.{Converting, converting, numbers-told, numbers_sound}
 use Rattle.sccp.proofs.value.numbers.Goals as goal
@@ -22,7 +21,12 @@ pub returns : goal.returns
 returns c =
     let fits : Converting c.requires.read = converting c.requires.read c.requires.value_value in
     let r = c.requires.read in
-    let (title, sound) = c.title_of.ensures in
+    let title = c.title_of.ensures.result_value in
+    let told = c.title_of.ensures.sound_title in
     let x = c.title_of.result in
     let y = c.code_of.result in
-    let z = c.ssn_of.result in record { sound = numbers_sound r fits x y z title c.code_of.ensures c.ssn_of.ensures sound; value_value_2 = numbers-told r fits x y z title c.code_of.ensures c.ssn_of.ensures }
+    let z = c.ssn_of.result in
+    record {
+      sound = numbers_sound r fits x y z title c.code_of.ensures c.ssn_of.ensures told;
+      value_value_2 = numbers-told r fits x y z title c.code_of.ensures c.ssn_of.ensures;
+    }

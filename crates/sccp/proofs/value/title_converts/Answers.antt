@@ -1,5 +1,4 @@
 -- `sccp::value::title_converts` meets its contract.
-use borrow.Author.Rules.{rules}
 use borrow.Author.Tests.{ne_eqb, eq-eqb, lt-leb, le-leb}
 use mathlib.Core.Path.{ap, ◌∙◌}
 use mathlib.Core.List.{List}

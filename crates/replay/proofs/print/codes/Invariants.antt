@@ -1,5 +1,5 @@
 -- `replay::print::codes` is safe and ends.
-use Rattle.std.proofs.Common.{◌≡◌, ◌-◌, ◌≤◌, length, rules}
+use Rattle.std.proofs.Common.{◌≡◌, ◌-◌, ◌≤◌, length}
 use Rattle.replay.proofs.print.codes.Given as goal
 
 abbrev pub invariant-loop-i : goal.invariant-loop-i

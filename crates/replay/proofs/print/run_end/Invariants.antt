@@ -1,5 +1,5 @@
 -- `replay::print::run_end` is safe and ends.
-use Rattle.std.proofs.Common.{◌-◌, ◌<◌, ◌≤◌, length, rules}
+use Rattle.std.proofs.Common.{◌-◌, ◌<◌, ◌≤◌, length}
 use Rattle.replay.proofs.print.run_end.Given as goal
 
 abbrev pub invariant-loop-end : goal.invariant-loop-end

@@ -1,5 +1,5 @@
 -- `replay::print::short_run` is safe and ends.
-use Rattle.std.proofs.Common.{◌≡◌, ◌-◌, ◌≤◌, length, rules}
+use Rattle.std.proofs.Common.{◌≡◌, ◌-◌, ◌≤◌, length}
 use Rattle.replay.proofs.print.short_run.Given as goal
 
 abbrev pub invariant-loop-i : goal.invariant-loop-i

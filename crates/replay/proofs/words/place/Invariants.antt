@@ -1,5 +1,5 @@
 -- `replay::words::place` is safe and ends.
-use Rattle.std.proofs.Common.{◌-◌, ◌≤◌, length, rules}
+use Rattle.std.proofs.Common.{◌-◌, ◌≤◌, length}
 use Rattle.replay.proofs.words.place.Given as goal
 
 abbrev pub invariant-loop-at : goal.invariant-loop-at

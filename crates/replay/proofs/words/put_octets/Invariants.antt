@@ -1,5 +1,5 @@
 -- `replay::words::put_octets` is safe and ends.
-use Rattle.std.proofs.Common.{◌≡◌, ◌-◌, ◌≤◌, length, rules}
+use Rattle.std.proofs.Common.{◌≡◌, ◌-◌, ◌≤◌, length}
 use Rattle.replay.proofs.words.put_octets.Given as goal
 
 abbrev pub invariant-loop-i : goal.invariant-loop-i

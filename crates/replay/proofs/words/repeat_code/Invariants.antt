@@ -1,5 +1,5 @@
 -- `replay::words::repeat_code` is safe and ends.
-use Rattle.std.proofs.Common.{◌≡◌, ◌-◌, ◌≤◌, length, rules}
+use Rattle.std.proofs.Common.{◌≡◌, ◌-◌, ◌≤◌, length}
 use Rattle.replay.proofs.words.repeat_code.Given as goal
 
 abbrev pub invariant-loop-i : goal.invariant-loop-i

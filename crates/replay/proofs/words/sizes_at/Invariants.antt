@@ -1,5 +1,5 @@
 -- `replay::words::sizes_at` is safe and ends.
-use Rattle.std.proofs.Common.{◌≡◌, ◌-◌, ◌≤◌, length, rules}
+use Rattle.std.proofs.Common.{◌≡◌, ◌-◌, ◌≤◌, length}
 use Rattle.replay.proofs.words.sizes_at.Given as goal
 
 abbrev pub invariant-loop-i : goal.invariant-loop-i

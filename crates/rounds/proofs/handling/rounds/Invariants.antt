@@ -1,5 +1,5 @@
 -- `rounds::handling::rounds` is safe and ends.
-use Rattle.std.proofs.Common.{◌-◌, ◌≤◌, rules}
+use Rattle.std.proofs.Common.{◌-◌, ◌≤◌}
 use Rattle.rounds.proofs.handling.rounds.Given as goal
 
 abbrev pub invariant-loop-i : goal.invariant-loop-i

@@ -1,5 +1,5 @@
 -- `rounds::sums::digits` is safe and ends.
-use Rattle.std.proofs.Common.{◌-◌, ◌≤◌, rules}
+use Rattle.std.proofs.Common.{◌-◌, ◌≤◌}
 use Rattle.rounds.proofs.sums.digits.Given as goal
 
 abbrev pub invariant-loop-i : goal.invariant-loop-i

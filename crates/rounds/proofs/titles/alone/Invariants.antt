@@ -1,5 +1,5 @@
 -- `rounds::titles::alone` is safe and ends.
-use Rattle.std.proofs.Common.{◌≡◌, ◌-◌, ◌≤◌, length, rules}
+use Rattle.std.proofs.Common.{◌≡◌, ◌-◌, ◌≤◌, length}
 use Rattle.rounds.proofs.titles.alone.Given as goal
 
 abbrev pub invariant-loop-i : goal.invariant-loop-i

@@ -1,5 +1,5 @@
 -- `rounds::titles::nothing` is safe and ends.
-use Rattle.std.proofs.Common.{◌-◌, ◌≤◌, rules}
+use Rattle.std.proofs.Common.{◌-◌, ◌≤◌}
 use Rattle.rounds.proofs.titles.nothing.Given as goal
 
 abbrev pub invariant-loop-i : goal.invariant-loop-i

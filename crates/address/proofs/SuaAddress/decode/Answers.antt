@@ -1,5 +1,4 @@
 -- `address::SuaAddress::decode` meets its contract.
-use borrow.Author.Rules.{rules}
 use mathlib.Core.Path.{◌≡◌, sym, ap, ◌∙◌}
 use Rattle.bcd.proofs.Outcomes.{octets-of}
 use Rattle.parameter.proofs.Filling.{small_tags, small_starts, small_lengths}

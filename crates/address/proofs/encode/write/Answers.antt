@@ -1,15 +1,15 @@
 -- `address::encode::write` meets its contract: the buffer after each part.
 use borrow.Author.Rules.{rules}
-use Prim.Native.Nat.{ℕ, ◌+◌, ◌-◌, ◌≤◌}
+use Prim.Native.Nat.{◌+◌, ◌-◌, ◌≤◌}
 use mathlib.Core.Path.{◌≡◌, refl, sym, ap, ◌∙◌}
-use mathlib.Core.List.{List, ◌++◌}
+use mathlib.Core.List.{◌++◌}
 use native.Mathlib.Omega.{arith}
 use lib.ListN.{length, take}
 use borrow.Rule.Slice.PartMut.{mid_of, put_mid}
-use Rattle.bcd.specs.Outcome.{Outcome, accepted, mapped, deliver}
+use Rattle.bcd.specs.Outcome.{accepted, mapped, deliver}
 use Rattle.bcd.specs.Answers.{counted_of}
 use Rattle.bcd.specs.declared.error.Counted.{Counted}
-use Rattle.parameter.specs.Parameter.{Param, run_octets}
+use Rattle.parameter.specs.Parameter.{run_octets}
 use Rattle.parameter.specs.Table.{Table}
 use Rattle.address.specs.Steps.GivenParts.{given_title, given_head}
 use Rattle.address.proofs.Planning.{code_param, sub_one}

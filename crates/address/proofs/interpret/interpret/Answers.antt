@@ -1,5 +1,4 @@
 -- `address::interpret::interpret` meets its contract.
-use borrow.Author.Rules.{rules}
 use mathlib.Core.Path.{◌≡◌, subst}
 use Rattle.address.specs.Steps.Plan.{ReadAs}
 use Rattle.address.specs.declared.interpret.Planned.{Planned}

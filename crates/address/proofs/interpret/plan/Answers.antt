@@ -1,5 +1,4 @@
 -- `address::interpret::plan` meets its contract.
-use borrow.Author.Rules.{rules}
 use mathlib.Core.Path.{◌≡◌, sym, ap, ◌∙◌}
 use Rattle.bcd.proofs.Outcomes.{octets-of}
 use Rattle.address.specs.Parts.{surveyed_of, interpreted}

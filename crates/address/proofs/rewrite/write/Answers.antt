@@ -1,14 +1,12 @@
 -- `address::rewrite::write` meets its contract: the buffer after each part.
-use borrow.Author.Rules.{rules}
-use Prim.Native.Nat.{ℕ, ◌+◌, ◌-◌}
+use Prim.Native.Nat.{◌+◌, ◌-◌}
 use mathlib.Core.Path.{refl}
-use mathlib.Core.List.{List, ◌++◌}
+use mathlib.Core.List.{◌++◌}
 use native.Mathlib.Omega.{arith}
 use lib.ListN.{length}
 use borrow.Rule.Slice.PartMut.{put_mid}
 use Rattle.bcd.proofs.Writing.{Begun, begin}
-use Rattle.parameter.specs.Parameter.{Param, run_octets}
-use Rattle.address.specs.Address.{title, code}
+use Rattle.parameter.specs.Parameter.{run_octets}
 use Rattle.address.specs.Again.{with_unknown}
 use Rattle.address.specs.Steps.Kept.{kept_code, kept_sub}
 use Rattle.address.specs.Steps.Plan.{head_octets}

@@ -1,5 +1,4 @@
 -- `address::title::write_value` meets its contract.
-use borrow.Author.Rules.{rules}
 use mathlib.Core.Path.{◌≡◌, sym, ap, ◌∙◌}
 use mathlib.Core.List.{[], ◌∷◌}
 use Prim.Native.Nat.{ℕ, ◌+◌, ◌-◌, ◌/◌}
@@ -12,7 +11,6 @@ use Rattle.bcd.specs.Answers.{counted_of}
 use Rattle.bcd.specs.Digits.{built_in, write_digits}
 use Rattle.bcd.specs.declared.error.Counted.{Counted}
 use Rattle.address.specs.Records.{title_record}
-use Rattle.address.specs.declared.GlobalTitle.{GlobalTitle}
 use Rattle.address.proofs.TitleRecords.{record_many, record_short, record_refused, record_put}
 use Rattle.address.proofs.title.write_value.Goals as goal
 

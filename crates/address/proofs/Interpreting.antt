@@ -17,7 +17,7 @@ use Rattle.parameter.specs.Walk.{valued, places, parameters}
 use Rattle.parameter.specs.declared.Place.{Place}
 use Rattle.parameter.proofs.Walking.{places_inside}
 use Rattle.parameter.proofs.Structure.{places-parameters}
-use Rattle.address.specs.Address.{title_at, title, code, as_title, as_code, as_sub, last, others_in, routing_in, address_with, address_in, read_address, pieces}
+use Rattle.address.specs.Address.{title_at, as_title, as_code, as_sub, last, others_in, routing_in, address_with, address_in, read_address, pieces}
 use Rattle.address.specs.Records.{routing_of}
 use Rattle.address.specs.declared.RoutingIndicator.{RoutingIndicator}
 use Rattle.address.specs.declared.Routing.{Routing}

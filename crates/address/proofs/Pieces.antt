@@ -5,7 +5,6 @@ use mathlib.Core.Bool.{Bool, true, false}
 use mathlib.Core.Option.{Option, none, some}
 use mathlib.Core.List.{List, [], ◌∷◌, ◌++◌, map}
 use native.Mathlib.Omega.{arith}
-use lib.ListN.{length}
 use Rattle.bcd.specs.Outcome.{All, pick}
 use Rattle.bcd.proofs.Outcomes.{all_append}
 use Rattle.parameter.specs.Parameter.{Param}

@@ -6,7 +6,6 @@ use mathlib.Core.List.{List, [], ◌∷◌}
 use Rattle.bcd.specs.Outcome.{Outcome, accepted, refused, mapped, Octets}
 use Rattle.bcd.specs.Digits.{built_in}
 use Rattle.parameter.specs.declared.Place.{Place}
-use Rattle.parameter.specs.Walk.{places}
 use Rattle.parameter.specs.Table.{Table, Tabulated, tabulate, records}
 use Rattle.parameter.proofs.Stored.{stored_or_small}
 use Rattle.bcd.proofs.Outcomes.{accepted_inj}

@@ -1,14 +1,14 @@
 -- Digits that are written as they were read, ? too: what is written is what the built-in digits write, where these refuse
 -- nothing.
 use Prim.Native.Nat.{ℕ, zero, suc, ◌≤◌, ◌<◌}
-use mathlib.Core.Path.{◌≡◌, refl, sym, ap, ◌∙◌}
+use mathlib.Core.Path.{◌≡◌, refl, ap, ◌∙◌}
 use mathlib.Core.Bool.{Bool, true, false}
 use mathlib.Core.Option.{Option, none, some, map}
 use mathlib.Core.List.{List, [], ◌∷◌, ◌++◌}
 use native.Mathlib.Omega.{arith}
 use lib.Dec.{leb, eqb}
 use lib.ListN.{length, take}
-use Rattle.bcd.specs.Outcome.{Outcome, accepted, refused, pick, after, mapped, each, All, Octets}
+use Rattle.bcd.specs.Outcome.{Outcome, accepted, pick, after, mapped, each, All, Octets}
 use Rattle.bcd.specs.Digits.{Alphabet, Lawful, halves, pack, place, characters, fold, built_in, digits_in, written, write_digits}
 use Rattle.bcd.proofs.Outcomes.{never, after_inv, mapped_inv, demand_inv, each_inv, each-cons, all_take}
 use Rattle.bcd.proofs.Halves.{Nibbles, halves-nibbles}
@@ -16,7 +16,7 @@ use Rattle.bcd.proofs.Characters.{place_at, built_in_lawful}
 use Rattle.bcd.proofs.Writable.{nibbles, all_good}
 use Rattle.bcd.proofs.Digits.{read_at_most, Back, nibbles_back}
 use Rattle.parameter.specs.Parameter.{Param}
-use Rattle.address.specs.Address.{Address, Title, Piece, title, code, sub, other, title_in, title_octets, piece_in, address_in, read_address, write_title, sub_param, pieces, write_address}
+use Rattle.address.specs.Address.{Piece, title, code, sub, other, title_in, title_octets, piece_in, address_in, read_address, write_title, sub_param, pieces, write_address}
 use Rattle.address.specs.Again.{with_unknown}
 use Rattle.address.specs.Steps.Plan.{digits_by}
 

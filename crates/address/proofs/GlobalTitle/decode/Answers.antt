@@ -1,5 +1,4 @@
 -- `address::GlobalTitle::decode` meets its contract.
-use borrow.Author.Rules.{rules}
 use mathlib.Core.Path.{sym, ap, ◌∙◌}
 use native.Mathlib.Omega.{arith}
 use Rattle.bcd.specs.Outcome.{Delivered, accepted}

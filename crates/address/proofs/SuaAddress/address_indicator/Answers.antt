@@ -1,5 +1,4 @@
 -- `address::SuaAddress::address_indicator` meets its contract.
-use borrow.Author.Rules.{rules}
 use Rattle.address.specs.Address.{indicator}
 use Rattle.address.proofs.SuaAddress.address_indicator.Goals as goal
 

@@ -1,5 +1,4 @@
 -- `address::decode::nothing` meets its contract.
-use borrow.Author.Rules.{rules}
 use Rattle.address.proofs.decode.nothing.Goals as goal
 
 pub returns : goal.returns

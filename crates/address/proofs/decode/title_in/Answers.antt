@@ -1,5 +1,4 @@
 -- `address::decode::title_in` meets its contract.
-use borrow.Author.Rules.{rules}
 use borrow.Author.Tests.{lt-ltb, le-ltb}
 use native.Mathlib.Omega.{arith}
 use Rattle.address.proofs.AddressRecords.{title_kept}

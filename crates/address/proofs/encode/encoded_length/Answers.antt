@@ -1,5 +1,4 @@
 -- `address::encode::encoded_length` meets its contract.
-use borrow.Author.Rules.{rules}
 use Prim.Native.Nat.{ℕ}
 use mathlib.Core.Path.{sym, ap, ◌∙◌}
 use Rattle.bcd.specs.Outcome.{Outcome}

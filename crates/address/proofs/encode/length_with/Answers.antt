@@ -1,14 +1,13 @@
 -- `address::encode::length_with` meets its contract.
-use borrow.Author.Rules.{rules}
 use Prim.Native.Nat.{ℕ, ◌+◌}
 use mathlib.Core.Path.{◌≡◌, sym, ap, ◌∙◌}
 use mathlib.Core.Bool.{Bool}
 use mathlib.Core.List.{List, [], map}
 use native.Mathlib.Omega.{arith}
 use lib.ListN.{length, take}
-use Rattle.bcd.specs.Outcome.{Outcome, accepted, refused, pick, after, mapped, each, fit64}
+use Rattle.bcd.specs.Outcome.{accepted, refused, pick, after, mapped, each, fit64}
 use Rattle.bcd.specs.Answers.{counted_of}
-use Rattle.parameter.specs.Parameter.{Param, encode_param}
+use Rattle.parameter.specs.Parameter.{encode_param}
 use Rattle.parameter.specs.Walk.{valued}
 use Rattle.parameter.specs.Table.{Table, rows, records}
 use Rattle.parameter.proofs.Records.{told_outside}

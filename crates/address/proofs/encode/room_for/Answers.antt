@@ -1,5 +1,4 @@
 -- `address::encode::room_for` meets its contract.
-use borrow.Author.Rules.{rules}
 use Prim.Native.Nat.{ℕ}
 use mathlib.Core.Path.{ap, ◌∙◌}
 use Rattle.bcd.specs.Outcome.{Outcome}

@@ -1,14 +1,12 @@
 -- `address::encode::title_length` meets its contract.
 use borrow.Author.Rules.{rules}
 use Prim.Native.Nat.{ℕ, ◌+◌, ◌*◌, ◌/◌}
-use mathlib.Core.Path.{◌≡◌, sym, ap, ◌∙◌}
+use mathlib.Core.Path.{◌≡◌, sym}
 use native.Mathlib.Omega.{arith}
 use lib.ListN.{length, take}
 use lib.Seq.{length-take-le}
 use Rattle.bcd.specs.Outcome.{Outcome, mapped}
-use Rattle.bcd.specs.Answers.{counted_of}
 use Rattle.bcd.specs.Digits.{built_in, write_digits}
-use Rattle.bcd.specs.declared.error.Counted.{Counted}
 use Rattle.parameter.specs.Parameter.{run_length}
 use Rattle.address.specs.Steps.GivenParts.{given_title}
 use Rattle.address.proofs.Planning.{digits_small}
@@ -32,25 +30,21 @@ slice_bounds-gt_digits_length-end c =
 
 pub overflow_add-result : goal.overflow_add-result
 overflow_add-result c =
-    let answered : (r : Counted) → c.gt_digits_length.result ≡ r → counted_of r ≡ (mapped length (write_digits built_in (take c.args.gt.count c.args.gt.digits))) = λ r e. sym (ap counted_of e) ∙ c.gt_digits_length.ensures in
-    let s = digits_small _ _ (answered _ c.in-Count.is) in omega arith
+    let s = digits_small _ _ c.in-Count.ensures in omega arith
 
 pub overflow_mul-result : goal.overflow_mul-result
 overflow_mul-result c =
-    let answered : (r : Counted) → c.gt_digits_length.result ≡ r → counted_of r ≡ (mapped length (write_digits built_in (take c.args.gt.count c.args.gt.digits))) = λ r e. sym (ap counted_of e) ∙ c.gt_digits_length.ensures in
-    let s = digits_small _ _ (answered _ c.in-Count.is) in omega arith
+    let s = digits_small _ _ c.in-Count.ensures in omega arith
 
 pub returns-in-Count : goal.returns-in-Count
 returns-in-Count c =
     let counted : (o : Outcome ℕ) → o ≡ (mapped length (write_digits built_in (take c.args.gt.count c.args.gt.digits))) → mapped (λ n. (n + 15) / 4 * 4) o ≡ mapped run_length (given_title c.args.there c.args.gt) = λ o e. title_counted c.args.there c.args.gt o c.if-there.true c.if-count-gt255.false e in
-    let answered : (r : Counted) → c.gt_digits_length.result ≡ r → counted_of r ≡ (mapped length (write_digits built_in (take c.args.gt.count c.args.gt.digits))) = λ r e. sym (ap counted_of e) ∙ c.gt_digits_length.ensures in
-    counted _ (answered _ c.in-Count.is)
+    counted _ c.in-Count.ensures
 
 pub returns-in-Refused : goal.returns-in-Refused
 returns-in-Refused c =
     let counted : (o : Outcome ℕ) → o ≡ (mapped length (write_digits built_in (take c.args.gt.count c.args.gt.digits))) → mapped (λ n. (n + 15) / 4 * 4) o ≡ mapped run_length (given_title c.args.there c.args.gt) = λ o e. title_counted c.args.there c.args.gt o c.if-there.true c.if-count-gt255.false e in
-    let answered : (r : Counted) → c.gt_digits_length.result ≡ r → counted_of r ≡ (mapped length (write_digits built_in (take c.args.gt.count c.args.gt.digits))) = λ r e. sym (ap counted_of e) ∙ c.gt_digits_length.ensures in
-    counted _ (answered _ c.in-Refused.is)
+    counted _ c.in-Refused.ensures
 
 pub returns : goal.returns
 returns c = title_none c.args.there c.args.gt c.if-there.false

@@ -1,5 +1,4 @@
 -- `address::encode::title_room` meets its contract.
-use borrow.Author.Rules.{rules}
 use borrow.Author.Tests.{le-leb, lt-leb}
 use mathlib.Core.Path.{ap}
 use native.Mathlib.Omega.{arith}

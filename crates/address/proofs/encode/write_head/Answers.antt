@@ -1,5 +1,5 @@
 -- `address::encode::write_head` meets its contract.
-use borrow.Author.Rules.{rules, Below-set}
+use borrow.Author.Rules.{Below-set}
 use Prim.Native.Nat.{ℕ, ◌/◌, ◌%◌}
 use mathlib.Core.Path.{ap₂, ◌∙◌}
 use mathlib.Core.List.{◌++◌}

@@ -1,5 +1,4 @@
 -- `address::parts::first_short` meets its contract.
-use borrow.Author.Rules.{rules}
 use borrow.Author.Tests.{lt-ltb, le-ltb}
 use Rattle.address.proofs.parts.first_short.Goals as goal
 

@@ -1,5 +1,5 @@
 -- `address::rewrite::clear_reserved` meets its contract.
-use borrow.Author.Rules.{rules, Below-set}
+use borrow.Author.Rules.{Below-set}
 use native.Mathlib.Omega.{arith}
 use lib.ListN.{set}
 use Rattle.address.proofs.rewrite.clear_reserved.Goals as goal

@@ -1,5 +1,4 @@
 -- `address::rewrite::put_title` meets its contract.
-use borrow.Author.Rules.{rules}
 use Prim.Native.Nat.{ℕ, ◌+◌, ◌/◌, ◌*◌, ◌%◌, ◌≤◌}
 use mathlib.Core.Path.{sym, ap, ◌∙◌}
 use mathlib.Core.List.{List}
@@ -36,7 +35,7 @@ bounds-out-8 c =
     let r = room in omega (arith, c.clear_reserved.auto.out, c.encode.auto.out)
 
 pub shape_of-out-then-digits-eq0 : goal.shape_of-out-then-digits-eq0
-shape_of-out-then-digits-eq0 c = let l = length-set c.clear_reserved.new.out 8 c.smaller-digits.result in omega (arith, c.clear_reserved.auto.out, c.encode.auto.out)
+shape_of-out-then-digits-eq0 c = omega (arith, length-set {A = ℕ}, c.clear_reserved.auto.out, c.encode.auto.out)
 
 pub returns-then-digits-eq0 : goal.returns-then-digits-eq0
 returns-then-digits-eq0 c =
@@ -50,10 +49,10 @@ pub clear_high-requires : goal.clear_high-requires
 clear_high-requires c =
     let octets : Octets c.args.value.now = octets-of c.args.value.now (λ i. (c.type_inv.value i).fits) in
     let room : padded_length (8 + (c.smaller-digits.result + 1) / 2) ≤ length c.args.out.now = title_room_lem c.args.value.now octets c.requires.in_bounds c.smaller-digits.result c.smaller-digits.ensures c.args.out.now c.requires.ready in
-    let r = room in let l = length-set c.clear_reserved.new.out 8 c.smaller-digits.result in omega (arith, c.clear_reserved.auto.out, c.encode.auto.out)
+    let r = room in omega (arith, length-set {A = ℕ}, c.clear_reserved.auto.out, c.encode.auto.out)
 
 pub shape_of-out : goal.shape_of-out
-shape_of-out c = let l = length-set c.clear_reserved.new.out 8 c.smaller-digits.result in omega (arith, c.clear_high.auto.out, c.clear_reserved.auto.out, c.encode.auto.out)
+shape_of-out c = omega (arith, length-set {A = ℕ}, c.clear_high.auto.out, c.clear_reserved.auto.out, c.encode.auto.out)
 
 pub returns : goal.returns
 returns c =

@@ -1,5 +1,4 @@
 -- `address::rewrite::rewrite_by` meets its contract.
-use borrow.Author.Rules.{rules}
 use mathlib.Core.List.{List}
 use Prim.Native.Nat.{ℕ}
 use mathlib.Core.Path.{sym, ap, subst, ◌∙◌}

@@ -1,5 +1,4 @@
 -- `address::rewrite::rewritten_length` meets its contract.
-use borrow.Author.Rules.{rules}
 use mathlib.Core.Path.{sym, ap, subst}
 use lib.ListN.{length}
 use Rattle.bcd.specs.Outcome.{mapped}

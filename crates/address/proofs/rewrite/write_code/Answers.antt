@@ -1,5 +1,4 @@
 -- `address::rewrite::write_code` meets its contract.
-use borrow.Author.Rules.{rules}
 use borrow.Author.Tests.{lt-ltb, le-ltb}
 use native.Mathlib.Omega.{arith}
 use Rattle.bcd.proofs.Outcomes.{octets-of}

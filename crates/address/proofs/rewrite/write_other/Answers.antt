@@ -1,5 +1,4 @@
 -- `address::rewrite::write_other` meets its contract.
-use borrow.Author.Rules.{rules}
 use mathlib.Core.Path.{sym, ◌∙◌}
 use native.Mathlib.Omega.{arith}
 use Rattle.address.proofs.Copying.{other_put, other_absent}

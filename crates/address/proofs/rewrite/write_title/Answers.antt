@@ -1,5 +1,4 @@
 -- `address::rewrite::write_title` meets its contract.
-use borrow.Author.Rules.{rules}
 use borrow.Author.Tests.{lt-ltb, le-ltb}
 use native.Mathlib.Omega.{arith}
 use Rattle.parameter.proofs.Running.{part_length}

@@ -1,5 +1,4 @@
 -- `address::title::refused` meets its contract.
-use borrow.Author.Rules.{rules}
 use Rattle.address.proofs.title.refused.Goals as goal
 
 pub returns : goal.returns

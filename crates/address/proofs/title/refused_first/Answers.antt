@@ -1,5 +1,4 @@
 -- `address::title::refused_first` meets its contract.
-use borrow.Author.Rules.{rules}
 use mathlib.Core.Path.{sym, ap}
 use Prim.Native.Nat.{ℕ}
 use Rattle.bcd.specs.Outcome.{after}

@@ -1,18 +1,12 @@
 -- `address::title::write_value` meets its contract.
-use borrow.Author.Rules.{rules}
 use mathlib.Core.Path.{◌≡◌, sym, ap, ◌∙◌}
 use mathlib.Core.List.{[], ◌∷◌}
-use Prim.Native.Nat.{ℕ, ◌+◌, ◌-◌, ◌/◌}
+use Prim.Native.Nat.{ℕ, ◌+◌, ◌/◌}
 use native.Mathlib.Omega.{arith}
 use lib.ListN.{length, take}
 use lib.Seq.{length-take-le}
-use borrow.Rule.Slice.PartMut.{mid_of}
-use Rattle.bcd.specs.Outcome.{Outcome, refused, after, deliver}
-use Rattle.bcd.specs.Answers.{counted_of}
-use Rattle.bcd.specs.Digits.{built_in, write_digits}
-use Rattle.bcd.specs.declared.error.Counted.{Counted}
+use Rattle.bcd.specs.Outcome.{Outcome, refused, after}
 use Rattle.address.specs.Records.{title_record}
-use Rattle.address.specs.declared.GlobalTitle.{GlobalTitle}
 use Rattle.address.proofs.TitleRecords.{record_many, record_short, record_refused, record_put}
 use Rattle.address.proofs.title.write_value.Goals as goal
 
@@ -34,14 +28,8 @@ slice_bounds-encode_gt_digits-end c =
 
 pub returns-in-Refused : goal.returns-in-Refused
 returns-in-Refused c =
-    let answered : (r : Counted) → c.encode_gt_digits.result ≡ r → record { answer = counted_of r; buffer = c.encode_gt_digits.new.out }
-    ≡ deliver (write_digits built_in (take c.args.count c.args.digits.now))
-    (mid_of 8 (length c.args.out.now - 8) c.args.out.now) = λ r e. ap (λ (r : Counted). record { answer = counted_of r; buffer = c.encode_gt_digits.new.out }) (sym e) ∙ c.encode_gt_digits.ensures in
-    record_refused ((title_record c.args.gti c.args.«translation_type» c.args.«numbering_plan» c.args.«nature_of_address» c.args.digits.now c.args.count)) c.if-count-gt255.false c.requires c.args.out.now c.if-out-length.false _ (answered _ c.in-Refused.is)
+    record_refused ((title_record c.args.gti c.args.«translation_type» c.args.«numbering_plan» c.args.«nature_of_address» c.args.digits.now c.args.count)) c.if-count-gt255.false c.requires c.args.out.now c.if-out-length.false _ c.in-Refused.ensures
 
 pub returns-in-Count : goal.returns-in-Count
 returns-in-Count c =
-    let answered : (r : Counted) → c.encode_gt_digits.result ≡ r → record { answer = counted_of r; buffer = c.encode_gt_digits.new.out }
-    ≡ deliver (write_digits built_in (take c.args.count c.args.digits.now))
-    (mid_of 8 (length c.args.out.now - 8) c.args.out.now) = λ r e. ap (λ (r : Counted). record { answer = counted_of r; buffer = c.encode_gt_digits.new.out }) (sym e) ∙ c.encode_gt_digits.ensures in
-    record_put ((title_record c.args.gti c.args.«translation_type» c.args.«numbering_plan» c.args.«nature_of_address» c.args.digits.now c.args.count)) c.if-count-gt255.false c.requires c.args.out.now c.if-out-length.false _ _ _ (answered _ c.in-Count.is) c.copy.ensures.copied
+    record_put ((title_record c.args.gti c.args.«translation_type» c.args.«numbering_plan» c.args.«nature_of_address» c.args.digits.now c.args.count)) c.if-count-gt255.false c.requires c.args.out.now c.if-out-length.false _ _ _ c.in-Count.ensures c.copy.ensures.copied

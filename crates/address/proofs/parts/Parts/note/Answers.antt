@@ -1,5 +1,4 @@
 -- `address::parts::Parts::note` meets its contract.
-use borrow.Author.Rules.{rules}
 use Prim.Native.Nat.{◌+◌}
 use mathlib.Core.Path.{◌≡◌}
 use native.Mathlib.Omega.{arith}

@@ -9,7 +9,7 @@ use lib.ListN.{length, take, drop, take-append-drop, length-append, length-drop,
 use lib.Seq.{length-take-le, take-append_seam, drop-append-add, drop_at}
 use Rattle.bcd.specs.Outcome.{accepted, mapped}
 use Rattle.bcd.proofs.Outcomes.{le_or_lt}
-use Rattle.parameter.specs.Parameter.{Param, two, padded_length}
+use Rattle.parameter.specs.Parameter.{Param, padded_length}
 use Rattle.parameter.specs.Walk.{steps, parameters}
 use Rattle.parameter.specs.Padding.{unpadded, padding, Holds, tail, last, next}
 use Rattle.parameter.proofs.Walking.{step_end}

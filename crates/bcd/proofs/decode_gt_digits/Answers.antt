@@ -1,7 +1,6 @@
 -- `bcd::decode_gt_digits` meets its contract.
 use Rattle.bcd.specs.Digits.{built_in}
 use Rattle.bcd.proofs.Reading.{reading_refused, reading_done}
-use borrow.Author.Rules.{rules}
 use Rattle.bcd.proofs.decode_gt_digits.Goals as goal
 
 pub returns-then-given-gt1048576 : goal.returns-then-given-gt1048576

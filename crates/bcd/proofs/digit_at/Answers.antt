@@ -2,7 +2,6 @@
 use mathlib.Core.Path.{ap, ◌∙◌}
 use Rattle.bcd.specs.Digits.{built_in}
 use Rattle.bcd.proofs.Reading.{half_even, half_odd}
-use borrow.Author.Rules.{rules}
 use Rattle.bcd.proofs.digit_at.Goals as goal
 
 pub returns-then-i-eq0 : goal.returns-then-i-eq0

@@ -1,11 +1,10 @@
 -- `bcd::digit_in` meets its contract, behind the octets and inside them.
-use Prim.Native.Nat.{◌*◌, ◌≤◌}
+use Prim.Native.Nat.{◌≤◌}
 use mathlib.Core.Path.{sym, ap, ◌∙◌}
 use native.Mathlib.Omega.{arith}
 use lib.ListN.{length, get_or-eq_default}
 use Rattle.bcd.specs.Digits.{halves, built_in}
 use Rattle.bcd.proofs.Halves.{halves-length}
-use borrow.Author.Rules.{rules}
 use Rattle.bcd.proofs.digit_in.Goals as goal
 
 pub returns-then-bytes-i : goal.returns-then-bytes-i

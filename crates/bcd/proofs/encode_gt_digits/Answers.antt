@@ -1,5 +1,4 @@
 -- `bcd::encode_gt_digits` meets its contract: what was packed is the definition's, and is copied where it fits.
-use borrow.Author.Rules.{rules}
 use Prim.Native.Nat.{ℕ, ◌≤◌}
 use mathlib.Core.Path.{◌≡◌, sym, ap, ◌∙◌}
 use mathlib.Core.List.{List, ◌++◌}

@@ -1,5 +1,4 @@
 -- `bcd::nibble_to_char` meets its contract: each arm's half octet has that character.
-use borrow.Author.Rules.{rules}
 use native.Mathlib.Omega.{arith}
 use Rattle.bcd.proofs.Characters.{char_decimal, char_other}
 use Rattle.bcd.proofs.nibble_to_char.Goals as goal

@@ -1,13 +1,12 @@
 -- `bcd::pack_digits` meets its contract: the loop has checked the first 2 k digits and stored their k octets.
-use borrow.Author.Rules.{rules}
-use Prim.Native.Nat.{ℕ, ◌+◌, ◌*◌, ◌/◌, ◌-◌, ◌≤◌, ◌<◌}
+use Prim.Native.Nat.{ℕ, ◌+◌, ◌*◌, ◌/◌, ◌≤◌, ◌<◌}
 use mathlib.Core.Path.{◌≡◌, refl, ap₂, ◌∙◌, subst}
-use mathlib.Core.List.{List, map}
+use mathlib.Core.List.{List}
 use native.Mathlib.Omega.{arith}
 use lib.ListN.{length, get_or, take, set}
 use lib.Seq.{take_all}
 use Rattle.bcd.specs.Outcome.{accepted}
-use Rattle.bcd.specs.Digits.{pack, built_in}
+use Rattle.bcd.specs.Digits.{built_in}
 use Rattle.bcd.specs.Steps.{nibble, Packed}
 use Rattle.bcd.proofs.Characters.{built_in_lawful}
 use Rattle.bcd.proofs.Reading.{octet-two, octet_one}

@@ -9,7 +9,6 @@ use Rattle.bcd.specs.Outcome.{accepted, most, bounded}
 use Rattle.bcd.proofs.Outcomes.{bounded-within, bounded_beyond}
 use Rattle.parameter.specs.Parameter.{two_at, number_in}
 use Rattle.parameter.proofs.Encoding.{number_short, number-four}
-use borrow.Author.Rules.{rules}
 use Rattle.parameter.proofs.as_u32.Goals as goal
 
 within : (v : List ℕ) (o : Option ℕ) → length v ≤ most → o ≡ number_in v → accepted o ≡ bounded v (accepted (number_in v))

@@ -4,7 +4,6 @@ use mathlib.Core.Path.{◌≡◌, refl}
 use mathlib.Core.List.{List, [], ◌∷◌}
 use native.Mathlib.Omega.{arith}
 use lib.ListN.{length, set, replicate}
-use borrow.Author.Rules.{rules}
 use Rattle.parameter.proofs.clear.Goals as goal
 
 none : (d : List ℕ) → length d < 1 → d ≡ replicate (length d) 0

@@ -7,7 +7,6 @@ use Rattle.parameter.specs.Walk.{step_at, taken, decode_param}
 use Rattle.parameter.specs.Answers.{step_of}
 use Rattle.parameter.specs.declared.Step.{Step}
 use Rattle.parameter.proofs.Encoding.{decode_step}
-use borrow.Author.Rules.{rules}
 use Rattle.parameter.proofs.decode.Goals as goal
 
 pub returns-then-next-n : goal.returns-then-next-n

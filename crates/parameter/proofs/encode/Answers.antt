@@ -7,7 +7,6 @@ use Rattle.bcd.specs.Answers.{counted_of}
 use Rattle.bcd.proofs.Outcomes.{deliver_too_long, deliver-passed_on}
 use Rattle.parameter.specs.Parameter.{Param, encode_param, wire_length}
 use Rattle.parameter.proofs.Encoding.{wire_encode, wire_inv, put-delivered}
-use borrow.Author.Rules.{rules}
 use Rattle.parameter.proofs.encode.Goals as goal
 
 pub returns-then-out-n : goal.returns-then-out-n

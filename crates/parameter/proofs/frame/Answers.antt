@@ -5,7 +5,6 @@ use Rattle.bcd.specs.Outcome.{accepted}
 use Rattle.bcd.specs.Answers.{counted_of}
 use Rattle.parameter.specs.Parameter.{wire_length}
 use Rattle.parameter.proofs.Encoding.{wire_inv, frame_beyond, frame_short, frame_delivered}
-use borrow.Author.Rules.{rules}
 use Rattle.parameter.proofs.frame.Goals as goal
 
 pub returns-then-out-n : goal.returns-then-out-n

@@ -6,7 +6,6 @@ use lib.ListN.{length, drop}
 use lib.Seq.{take-length}
 use borrow.Rule.Slice.PartMut.{mid_of}
 use Rattle.parameter.proofs.InPlace.{surrounded}
-use borrow.Author.Rules.{rules}
 use Rattle.parameter.proofs.put.Goals as goal
 
 pub returns : goal.returns

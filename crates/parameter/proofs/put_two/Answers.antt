@@ -1,5 +1,4 @@
 -- `parameter::put_two` meets its contract.
-use borrow.Author.Rules.{rules}
 use Rattle.parameter.proofs.Lists.{two-stored}
 use Rattle.parameter.proofs.put_two.Goals as goal
 

@@ -6,7 +6,6 @@ use lib.ListN.{take, drop}
 use Rattle.parameter.specs.Parameter.{Param, padded_length, param_octets}
 use Rattle.parameter.proofs.RoundTrip.{octets-length}
 use Rattle.parameter.proofs.Encoding.{framed-length, head_first, head_second, value-behind, pad_behind}
-use borrow.Author.Rules.{rules}
 use Rattle.parameter.proofs.surround.Goals as goal
 
 pub returns : goal.returns

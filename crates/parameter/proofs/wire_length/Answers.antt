@@ -5,7 +5,6 @@ use native.Mathlib.Omega.{arith}
 use Rattle.bcd.specs.Outcome.{accepted}
 use Rattle.parameter.specs.Parameter.{padded_length}
 use Rattle.parameter.proofs.Encoding.{wire_beyond, wire_within}
-use borrow.Author.Rules.{rules}
 use Rattle.parameter.proofs.wire_length.Goals as goal
 
 pub returns-then-length-gt65531 : goal.returns-then-length-gt65531

@@ -3,7 +3,6 @@ use mathlib.Core.Path.{sym, ap, ◌∙◌}
 use Rattle.bcd.specs.declared.error.Counted.{Counted}
 use Rattle.bcd.specs.Answers.{counted_of}
 use Rattle.report.specs.Report.{numbers}
-use borrow.Author.Rules.{rules}
 use Rattle.report.proofs.answer_numbers.Goals as goal
 
 pub returns-in-Count : goal.returns-in-Count

@@ -3,7 +3,6 @@ use mathlib.Core.Path.{◌≡◌, sym, ap}
 use Rattle.bcd.specs.declared.error.Refusal.{Refusal}
 use Rattle.bcd.specs.Answers.{refusal_of}
 use Rattle.report.specs.Report.{numbers}
-use borrow.Author.Rules.{rules}
 use Rattle.report.proofs.refusal_numbers.Goals as goal
 
 listed : {r s : Refusal} → r ≡ s → numbers (refusal_of s) ≡ numbers (refusal_of r)

@@ -1,11 +1,11 @@
 -- `report::store` meets its contract: the loop has stored the first i numbers.
-use Prim.Native.Nat.{ℕ, ◌-◌, ◌≤◌}
+use Prim.Native.Nat.{ℕ}
 use mathlib.Core.Path.{ap}
 use mathlib.Core.List.{List}
 use native.Mathlib.Omega.{arith}
-use lib.ListN.{length, get_or, take}
+use lib.ListN.{length, get_or}
 use Rattle.bcd.specs.Answers.{counted_of}
-use Rattle.bcd.proofs.Writing.{Begun, untouched, store_next}
+use Rattle.bcd.proofs.Writing.{untouched, store_next}
 use Rattle.report.proofs.Reports.{numbers-length, all-stored}
 use borrow.Author.Rules.{rules}
 use Rattle.report.proofs.store.Goals as goal

@@ -1,9 +1,6 @@
 -- `bcd::rewrite::unknown` meets its contract: the loop has kept the largest half of the first i octets.
-use borrow.Author.Rules.{rules}
-use Prim.Native.Nat.{◌+◌, ◌*◌, ◌-◌, ◌/◌, ◌≤◌}
-use mathlib.Core.Path.{◌≡◌}
-use native.Mathlib.Omega.{arith}
-use Rattle.bcd.proofs.Rewriting.{Largest, largest_none, largest_octet, largest_low, largest_decides}
+use Prim.Native.Nat.{◌*◌, ◌-◌, ◌≤◌}
+use Rattle.bcd.proofs.Rewriting.{Largest}
 use Rattle.bcd.proofs.rewrite.unknown.Given as goal
 
 abbrev pub invariant-loop-i : goal.invariant-loop-i

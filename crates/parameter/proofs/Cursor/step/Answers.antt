@@ -1,5 +1,4 @@
 -- `parameter::Cursor::step` meets its contract, case by case.
-use borrow.Author.Rules.{rules}
 use Prim.Native.Nat.{ℕ, ◌≤◌}
 use mathlib.Core.List.{List}
 use lib.ListN.{length}

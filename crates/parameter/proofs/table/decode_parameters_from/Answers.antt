@@ -1,13 +1,10 @@
 -- `parameter::table::decode_parameters_from` meets its contract: the count that was answered is the definition's.
 use mathlib.Core.Path.{◌≡◌, sym, ap, ◌∙◌}
-use mathlib.Core.List.{List}
 use lib.ListN.{length}
-use Rattle.bcd.specs.Outcome.{Outcome, accepted, mapped, bounded}
+use Rattle.bcd.specs.Outcome.{accepted, mapped, bounded}
 use Rattle.bcd.specs.Answers.{counted_of}
-use Rattle.parameter.specs.declared.Place.{Place}
 use Rattle.parameter.specs.Walk.{places}
 use Rattle.parameter.proofs.Filling.{table_small, table_refused, small_tags, small_starts, small_lengths}
-use borrow.Author.Rules.{rules}
 use Rattle.parameter.proofs.table.decode_parameters_from.Goals as goal
 
 pub returns-then-tags-needed : goal.returns-then-tags-needed

@@ -9,7 +9,6 @@ use Rattle.bcd.proofs.Outcomes.{deliver_too_long}
 use Rattle.parameter.specs.Parameter.{Param, encode_param}
 use Rattle.parameter.specs.Table.{records}
 use Rattle.parameter.proofs.Running.{encoded_list, sum_large, sum_exact, sum-writable, sum_refused}
-use borrow.Author.Rules.{rules}
 use Rattle.parameter.proofs.table.encode_parameters.Goals as goal
 
 pub returns-then-n-gt1048576 : goal.returns-then-n-gt1048576

@@ -1,6 +1,6 @@
 -- `parameter::table::fill` meets its contract: the loop has stored n places.
 use borrow.Author.Rules.{rules}
-use Prim.Native.Nat.{◌-◌, ◌≤◌, ◌<◌}
+use Prim.Native.Nat.{◌<◌}
 use mathlib.Core.Path.{◌≡◌, sym, ap, ◌∙◌}
 use native.Mathlib.Omega.{arith}
 use lib.ListN.{length}
@@ -10,7 +10,7 @@ use Rattle.parameter.specs.declared.Step.{Step}
 use Rattle.parameter.specs.Walk.{step_at, places}
 use Rattle.parameter.specs.Answers.{step_of}
 use Rattle.parameter.proofs.Reaching.{counted-within, counted-places, same_count, reached_short, reached_all, reached_end, reached_refused}
-use Rattle.parameter.proofs.Filling.{Filling, filling_start, filling_next, filled}
+use Rattle.parameter.proofs.Filling.{filling_start, filling_next, filled}
 use Rattle.parameter.proofs.table.fill.Goals as goal
 
 pub loop-n-init : goal.loop-n-init

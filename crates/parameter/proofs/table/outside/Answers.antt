@@ -1,11 +1,10 @@
 -- `parameter::table::outside` meets its contract: the loop has found the first i records inside.
 use borrow.Author.Rules.{rules}
-use Prim.Native.Nat.{◌-◌, ◌≤◌}
 use mathlib.Core.Path.{refl}
 use native.Mathlib.Omega.{arith}
 use Rattle.parameter.specs.Table.{Table}
 use Rattle.parameter.proofs.Filling.{small_tags, small_starts, small_lengths}
-use Rattle.parameter.proofs.Records.{first_rows, Inside, records_few, check_more, check_outside, check_all}
+use Rattle.parameter.proofs.Records.{records_few, check_more, check_outside, check_all}
 use Rattle.parameter.proofs.table.outside.Goals as goal
 
 pub returns-then-tags-count : goal.returns-then-tags-count

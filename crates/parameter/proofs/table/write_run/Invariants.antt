@@ -1,12 +1,9 @@
 -- `parameter::table::write_run` meets its contract: the loop has written the first i parameters.
-use borrow.Author.Rules.{rules}
 use Prim.Native.Nat.{◌-◌, ◌≤◌}
 use mathlib.Core.List.{map}
-use native.Mathlib.Omega.{arith}
-use lib.ListN.{length, get_or, drop, length-take, length-drop}
 use Rattle.parameter.specs.Walk.{valued}
-use Rattle.parameter.proofs.Records.{first_rows, held-length}
-use Rattle.parameter.proofs.Running.{Ready, ready, Running, Turn, running_start, running_turn, running_next, running_all, part_of, part_length}
+use Rattle.parameter.proofs.Records.{first_rows}
+use Rattle.parameter.proofs.Running.{Ready, Running}
 use Rattle.parameter.proofs.table.write_run.Given as goal
 
 abbrev pub invariant-loop-i : goal.invariant-loop-i

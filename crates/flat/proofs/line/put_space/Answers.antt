@@ -2,7 +2,6 @@
 use mathlib.Core.Path.{refl, sym, ap}
 use native.Mathlib.Omega.{arith}
 use lib.ListN.{length}
-use borrow.Author.Rules.{rules}
 use Rattle.flat.proofs.Lines.{space_inside, space-between}
 use Rattle.flat.proofs.Printing.{space-stored}
 use Rattle.flat.proofs.line.put_space.Goals as goal

@@ -14,7 +14,7 @@ title-d-requires c = let r = c.requires.read in
     let a = title_small v c.args.parts.title r.known.octets k.title in
     let b = code_small_lem v c.args.parts.code in
     let d = sub_small v c.args.parts.ssn in
-    (k.title, (r.known.within, omega (arith, c.requires.at_bound, c.put-a.ensures.behind, c.put-b.ensures.behind, c.put-c.ensures.behind)))
+    record { held_in = k.title; value_len_bound = r.known.within; at_bound = omega (arith, c.requires.at_bound, c.put-a.ensures.behind, c.put-b.ensures.behind, c.put-c.ensures.behind) }
 
 pub code-e-requires : goal.code-e-requires
 code-e-requires c = let r = c.requires.read in
@@ -23,7 +23,7 @@ code-e-requires c = let r = c.requires.read in
     let a = title_small v c.args.parts.title r.known.octets k.title in
     let b = code_small_lem v c.args.parts.code in
     let d = sub_small v c.args.parts.ssn in
-    (k.code, omega (arith, c.requires.at_bound, c.put-a.ensures.behind, c.put-b.ensures.behind, c.put-c.ensures.behind, c.title-d.ensures.behind))
+    record { held_in = k.code; at_bound = omega (arith, c.requires.at_bound, c.put-a.ensures.behind, c.put-b.ensures.behind, c.put-c.ensures.behind, c.title-d.ensures.behind) }
 
 pub ssn-f-requires : goal.ssn-f-requires
 ssn-f-requires c = let r = c.requires.read in
@@ -32,7 +32,7 @@ ssn-f-requires c = let r = c.requires.read in
     let a = title_small v c.args.parts.title r.known.octets k.title in
     let b = code_small_lem v c.args.parts.code in
     let d = sub_small v c.args.parts.ssn in
-    (k.ssn, omega (arith, c.requires.at_bound, c.put-a.ensures.behind, c.put-b.ensures.behind, c.put-c.ensures.behind, c.title-d.ensures.behind, c.code-e.ensures.behind))
+    record { held_in = k.ssn; at_bound = omega (arith, c.requires.at_bound, c.put-a.ensures.behind, c.put-b.ensures.behind, c.put-c.ensures.behind, c.title-d.ensures.behind, c.code-e.ensures.behind) }
 
 pub others-requires : goal.others-requires
 others-requires c = let r = c.requires.read in

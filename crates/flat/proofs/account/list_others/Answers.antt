@@ -16,7 +16,7 @@ use borrow.Author.Rules.{rules}
 use Rattle.flat.proofs.account.list_others.Goals as goal
 
 pub put_four-to-requires : goal.put_four-to-requires
-put_four-to-requires c = (omega (arith, count_small c.requires.read.known), omega (arith, c.requires.at_bound))
+put_four-to-requires c = record { n_bound = omega (arith, count_small c.requires.read.known); at_bound = omega (arith, c.requires.at_bound) }
 
 pub loop-n-init : goal.loop-n-init
 loop-n-init c = listing_start _ _ _ _
@@ -29,7 +29,11 @@ other-to-requires c =
     let f = step_inv c.args.value.now c.loop-n.c.at (stepped _ c.in-Parameter.is) in
     let few = listing_few c.loop-n.invariant in
     let four = c.put_four-to.ensures.behind in
-    (omega (arith, f.inside, c.requires.value_bound), (omega (arith, f.inside, c.requires.value_bound), omega (arith, few, four, c.requires.at_bound, c.requires.value_bound, c.loop-n-test.true)))
+    record {
+      start_bound = omega (arith, f.inside, c.requires.value_bound);
+      length_bound = omega (arith, f.inside, c.requires.value_bound);
+      at_bound = omega (arith, few, four, c.requires.at_bound, c.requires.value_bound, c.loop-n-test.true);
+    }
 
 pub loop-n-preserved : goal.loop-n-preserved
 loop-n-preserved c =

@@ -8,19 +8,15 @@ use Rattle.flat.proofs.Accounting.{others-length, others_none}
 use borrow.Author.Rules.{rules}
 use Rattle.flat.proofs.account.others.Goals as goal
 
--- src/account.rt:220:25
 pub overflow_mul-result : goal.overflow_mul-result
 overflow_mul-result c = omega (arith, count_small c.requires.read.known)
 
--- src/account.rt:220:16
 pub overflow_add-result-then-out-at : goal.overflow_add-result-then-out-at
 overflow_add-result-then-out-at c = omega (arith, count_small c.requires.read.known, c.requires.at_bound)
 
--- src/account.rt:220:9
 pub returns-then-out-at : goal.returns-then-out-at
 returns-then-out-at c = emitted_beyond c.args.out.now c.args.at (others_fields c.args.base c.args.value.now c.args.parts) c.if-out-at.true (omega (arith, others-length c.args.base c.requires.read))
 
--- src/account.rt:223:9
 pub returns-then-count-eq0 : goal.returns-then-count-eq0
 returns-then-count-eq0 c = let none = c.if-count-eq0.true in
     others_none c.args.base c.requires.read (omega (arith, none)) c.put_four.ensures

@@ -19,7 +19,7 @@ pub put_place-behind-requires : goal.put_place-behind-requires
 put_place-behind-requires c =
     let total : c.in-Count.at ≤ 18014398509481984 = rw c.in-Count.is at c.requires.sum_bound in
     let n = total in
-    (omega (arith, c.requires), (omega (arith, c.requires), omega (arith, n)))
+    record { start_bound = omega (arith, c.requires); length_bound = omega (arith, c.requires); at_bound = omega (arith, n) }
 
 pub address-requires : goal.address-requires
 address-requires c =
@@ -35,10 +35,10 @@ returns-then-is_address c = let p = c.args.place in
     let xs = c.args.input.now in
     let x = c.put_place-behind.ensures in
     let w = c.address in
-    let y = subst (λ (v : List ℕ). Tried c.put_place-behind.new.out c.put_place-behind.result (address_account built_in p.start v) (counted_of w.result) w.new.1.1.1.0) (part_of p.start p.length xs) w.ensures.1 in
+    let y = subst (λ (v : List ℕ). Tried c.put_place-behind.new.out c.put_place-behind.result (address_account built_in p.start v) (counted_of w.result) w.new.out) (part_of p.start p.length xs) w.ensures.tried in
     let t = sym c.is_address.ensures ∙ c.if-is_address.true in
     let sum : sum_of (counted_of c.args.sum) ≡ c.in-Count.at = ap (λ (a : Counted). sum_of (counted_of a)) c.in-Count.is in
-    record { result_bound = omega (arith, w.ensures.0, x.behind, sum); further = further_address xs c.args.out.now p _ _ (ap counted_of c.in-Count.is) t x y }
+    record { result_bound = omega (arith, w.ensures.result_bound, x.behind, sum); further = further_address xs c.args.out.now p _ _ (ap counted_of c.in-Count.is) t x y }
 
 pub returns-in-Refused : goal.returns-in-Refused
 returns-in-Refused c = record { result_bound = omega arith; further = further_refused c.args.input.now c.args.out.now c.args.place _ _ _ (ap counted_of c.in-Refused.is) }

@@ -28,7 +28,7 @@ param-sum-requires c =
     let at = c.loop-n.c.at in
     sym (bounded-within xs (step_at xs at) c.requires) ∙ sym c.step.ensures ∙ ap step_of e in
     let f = step_inv c.args.input.now c.loop-n.c.at (stepped _ c.in-Parameter.is) in
-    (c.requires, (f.inside, omega (arith, c.loop-n.invariant.small, c.requires, c.loop-n-test.true)))
+    record { input_len_bound = c.requires; length_bound = f.inside; sum_bound = omega (arith, c.loop-n.invariant.small, c.requires, c.loop-n-test.true) }
 
 pub loop-n-preserved : goal.loop-n-preserved
 loop-n-preserved c =
@@ -36,7 +36,7 @@ loop-n-preserved c =
     let at = c.loop-n.c.at in
     sym (bounded-within xs (step_at xs at) c.requires) ∙ sym c.step.ensures ∙ ap step_of e in
     let w = c.param-sum in
-    going_more c.loop-n.invariant c.in-Parameter.place c.in-Parameter.next.at c.loop-n-test.true (stepped _ c.in-Parameter.is) w.ensures.0 w.ensures.1 (search rules)
+    going_more c.loop-n.invariant c.in-Parameter.place c.in-Parameter.next.at c.loop-n-test.true (stepped _ c.in-Parameter.is) w.ensures.result_bound w.ensures.further (search rules)
 
 pub shape_of-out-in-End : goal.shape_of-out-in-End
 shape_of-out-in-End c = c.loop-n.invariant.same

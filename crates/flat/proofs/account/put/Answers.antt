@@ -1,7 +1,5 @@
 -- `flat::account::put` meets its contract.
-use Prim.Native.Nat.{◌-◌}
 use Rattle.flat.proofs.Emission.{emitted_there, emitted_past}
-use borrow.Author.Rules.{rules}
 use Rattle.flat.proofs.account.put.Goals as goal
 
 pub returns-then-at-out : goal.returns-then-at-out

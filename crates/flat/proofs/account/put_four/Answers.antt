@@ -1,7 +1,5 @@
 -- `flat::account::put_four` meets its contract.
-use Prim.Native.Nat.{◌-◌}
 use Rattle.flat.proofs.Emission.{emitted_more}
-use borrow.Author.Rules.{rules}
 use Rattle.flat.proofs.account.put_four.Goals as goal
 
 pub returns : goal.returns

@@ -1,9 +1,7 @@
 -- `flat::account::put_place` meets its contract.
-use Prim.Native.Nat.{◌-◌}
 use mathlib.Core.Path.{refl}
 use Rattle.flat.specs.Account.{place_octets}
 use Rattle.flat.proofs.Emission.{emitted_more, emitted_beyond}
-use borrow.Author.Rules.{rules}
 use Rattle.flat.proofs.account.put_place.Goals as goal
 
 pub returns-then-out-at : goal.returns-then-out-at

@@ -89,7 +89,7 @@ shape_of-out c =
     let pair = c.class_and_type-pair in
     let four = c.put_four in
     let room : 6 + length k.octets ≤ length c.args.out.now = omega (arith, k.size, c.if-out-total.false) in
-    let b = account_begun c.args.out.now pair.result.0 pair.result.1 _ k.octets four.new.1.1.0 c.params.new.out room four.ensures.held (c.params.ensures.tried.held k.octets k.accepts) in
+    let b = account_begun c.args.out.now pair.result.0 pair.result.1 _ k.octets four.new.out c.params.new.out room four.ensures.held (c.params.ensures.tried.held k.octets k.accepts) in
     subst (λ (q : ClassAndType). Begun c.args.out.now (q.0 ∷ (q.1 ∷ (Rattle.parameter.specs.Parameter.four (length k.walked) ++ k.octets))) c.params.new.out) pair.ensures
     (subst (λ (j : ℕ). Begun c.args.out.now (pair.result.0 ∷ (pair.result.1 ∷ (Rattle.parameter.specs.Parameter.four j ++ k.octets))) c.params.new.out) n b) in
     let b = begun in
@@ -107,7 +107,7 @@ returns-else-out-total c =
     let pair = c.class_and_type-pair in
     let four = c.put_four in
     let room : 6 + length k.octets ≤ length c.args.out.now = omega (arith, k.size, c.if-out-total.false) in
-    let b = account_begun c.args.out.now pair.result.0 pair.result.1 _ k.octets four.new.1.1.0 c.params.new.out room four.ensures.held (c.params.ensures.tried.held k.octets k.accepts) in
+    let b = account_begun c.args.out.now pair.result.0 pair.result.1 _ k.octets four.new.out c.params.new.out room four.ensures.held (c.params.ensures.tried.held k.octets k.accepts) in
     subst (λ (q : ClassAndType). Begun c.args.out.now (q.0 ∷ (q.1 ∷ (Rattle.parameter.specs.Parameter.four (length k.walked) ++ k.octets))) c.params.new.out) pair.ensures
     (subst (λ (j : ℕ). Begun c.args.out.now (pair.result.0 ∷ (pair.result.1 ∷ (Rattle.parameter.specs.Parameter.four j ++ k.octets))) c.params.new.out) n b) in
     let k = known in

@@ -1,11 +1,9 @@
 -- `flat::account::ssn` meets its contract.
-use Prim.Native.Nat.{◌-◌}
 use mathlib.Core.Path.{sym}
 use native.Mathlib.Omega.{arith}
 use Rattle.flat.proofs.Emission.{emitted_more}
 use Rattle.address.proofs.Keeping.{value_at, place_of}
 use Rattle.flat.proofs.Describing.{sub-there, sub_none}
-use borrow.Author.Rules.{rules}
 use borrow.Author.Tests.{lt-ltb, le-ltb}
 use Rattle.flat.proofs.account.ssn.Goals as goal
 

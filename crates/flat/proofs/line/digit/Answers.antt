@@ -1,5 +1,4 @@
 -- `flat::line::digit` meets its contract.
-use borrow.Author.Rules.{rules}
 use borrow.Author.Tests.{lt-ltb, le-ltb}
 use Rattle.flat.proofs.line.digit.Goals as goal
 

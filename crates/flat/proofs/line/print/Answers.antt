@@ -17,7 +17,7 @@ use Rattle.flat.proofs.line.print.Goals as goal
 
 pub returns-then-n-gt65536 : goal.returns-then-n-gt65536
 returns-then-n-gt65536 c = let l = length-take-le c.args.n c.args.octets.now c.requires.n_in_bounds in
-    line_large (take c.args.n c.args.octets.now) c.args.out.now _ _ _ c.requires.most_printed_in_bounds c.count.ensures (omega (arith, c.if-n-gt65536.true)) c.refused_line.ensures
+    line_large (take c.args.n c.args.octets.now) c.args.out.now _ _ _ c.requires.most_printed_in_bounds c.count.ensures (omega arith) c.refused_line.ensures
 
 pub slice_bounds-settle-end : goal.slice_bounds-settle-end
 slice_bounds-settle-end c = sym (length-take-le _ _ c.requires.n_in_bounds)
@@ -38,18 +38,18 @@ slice_bounds-form_line-end-in-Count c =
 
 pub returns-in-Refused : goal.returns-in-Refused
 returns-in-Refused c =
-    let taken : length ((take c.args.n c.args.octets.now)) ≤ 65536 = omega (arith, length-take-le c.args.n c.args.octets.now c.requires.n_in_bounds, c.if-n-gt65536.false) in
+    let taken : length ((take c.args.n c.args.octets.now)) ≤ 65536 = omega (arith, length-take-le c.args.n c.args.octets.now c.requires.n_in_bounds) in
     let octets : Octets ((take c.args.n c.args.octets.now)) = let o : (i : ℕ) → get_or c.args.octets.now i 0 < 256 = λ i. omega (arith, c.type_inv.octets i) in
     all_take (λ (x : ℕ). x < 256) c.args.n c.args.octets.now (octets-of c.args.octets.now o) in
-    let settles : (r : Counted) → c.settle.result ≡ r → record { answer = counted_of r; buffer = c.settle.new.out } ≡ deliver (settled built_in ((take c.args.n c.args.octets.now))) c.args.form.now = λ r e. ap (λ (c.args : Outcome ℕ). record { answer = c.args; buffer = c.settle.new.out }) (sym (ap counted_of e)) ∙ c.settle.ensures in
+    let settles : (r : Counted) → c.settle.result ≡ r → record { answer = counted_of r; buffer = c.settle.new.out } ≡ deliver (settled built_in ((take c.args.n c.args.octets.now))) c.args.form.now = λ r e. ap (λ (a : Outcome ℕ). record { answer = a; buffer = c.settle.new.out }) (sym (ap counted_of e)) ∙ c.settle.ensures in
     line_refused ((take c.args.n c.args.octets.now)) c.args.out.now _ _ _ c.requires.most_printed_in_bounds c.count-in-Refused.ensures taken octets c.args.form.now _ c.requires.most_taken_in_bounds c.in-Refused.r
     (settles _ c.in-Refused.is) c.refused_line-in-Refused.ensures
 
 pub returns-in-Count : goal.returns-in-Count
 returns-in-Count c =
-    let taken : length ((take c.args.n c.args.octets.now)) ≤ 65536 = omega (arith, length-take-le c.args.n c.args.octets.now c.requires.n_in_bounds, c.if-n-gt65536.false) in
+    let taken : length ((take c.args.n c.args.octets.now)) ≤ 65536 = omega (arith, length-take-le c.args.n c.args.octets.now c.requires.n_in_bounds) in
     let octets : Octets ((take c.args.n c.args.octets.now)) = let o : (i : ℕ) → get_or c.args.octets.now i 0 < 256 = λ i. omega (arith, c.type_inv.octets i) in
     all_take (λ (x : ℕ). x < 256) c.args.n c.args.octets.now (octets-of c.args.octets.now o) in
-    let settles : (r : Counted) → c.settle.result ≡ r → record { answer = counted_of r; buffer = c.settle.new.out } ≡ deliver (settled built_in ((take c.args.n c.args.octets.now))) c.args.form.now = λ r e. ap (λ (c.args : Outcome ℕ). record { answer = c.args; buffer = c.settle.new.out }) (sym (ap counted_of e)) ∙ c.settle.ensures in
+    let settles : (r : Counted) → c.settle.result ≡ r → record { answer = counted_of r; buffer = c.settle.new.out } ≡ deliver (settled built_in ((take c.args.n c.args.octets.now))) c.args.form.now = λ r e. ap (λ (a : Outcome ℕ). record { answer = a; buffer = c.settle.new.out }) (sym (ap counted_of e)) ∙ c.settle.ensures in
     line_formed ((take c.args.n c.args.octets.now)) c.args.out.now _ _ _ c.requires.most_printed_in_bounds c.count-in-Count.ensures taken octets c.args.form.now _ c.requires.most_taken_in_bounds _
     (settles _ c.in-Count.is) c.form_line.ensures

@@ -20,7 +20,7 @@ pub slice_bounds-put_words-count : goal.slice_bounds-put_words-count
 slice_bounds-put_words-count c =
     let room : length (form_text c.args.form.now) ≤ length c.args.out.now = omega (arith, c.requires.n_value, c.requires.n_in_bounds) in
     let begun : Begun c.args.out.now (form_head c.args.form.now) c.put_between-first.new.out = form_begun c.args.form.now c.args.out.now room _ c.put_between-first.ensures.out_after in
-    omega (arith, c.put_between-first.ensures.value, begun.same, begun.ranges)
+    omega (arith, c.put_between-first.ensures.value, begun.same, begun.fits)
 
 pub slice_bounds-put_words-start : goal.slice_bounds-put_words-start
 slice_bounds-put_words-start c = slice_bounds-put_words-count c

@@ -1,5 +1,4 @@
 -- `flat::line::put_hex` meets its contract.
-use borrow.Author.Rules.{rules}
 use Rattle.flat.proofs.Printing.{two-stored}
 use Rattle.flat.proofs.line.put_hex.Goals as goal
 

@@ -1,15 +1,9 @@
 -- `flat::line::put_words` meets its contract: the loop has stored the words of the first i octets.
-use Prim.Native.Nat.{◌+◌, ◌-◌, ◌≤◌}
-use mathlib.Core.Path.{◌≡◌, refl}
-use mathlib.Core.List.{◌++◌}
-use native.Mathlib.Omega.{arith}
-use lib.ListN.{length, take, length-take, length-drop}
-use lib.Seq.{take_all}
-use borrow.Author.Rules.{rules}
-use borrow.Rule.Slice.PartMut.{put_mid}
-use Rattle.bcd.proofs.Writing.{Begun, untouched}
-use Rattle.flat.specs.Line.{space, words_from, words}
-use Rattle.flat.proofs.Printing.{turn_length, turn_room, after-space, after-hex}
+use Prim.Native.Nat.{◌-◌, ◌≤◌}
+use mathlib.Core.Path.{◌≡◌}
+use lib.ListN.{length, take}
+use Rattle.bcd.proofs.Writing.{Begun}
+use Rattle.flat.specs.Line.{words}
 use Rattle.flat.proofs.line.put_words.Given as goal
 
 abbrev pub invariant-loop-i : goal.invariant-loop-i

@@ -1,7 +1,6 @@
 -- `flat::line::words_length` meets its contract.
 use mathlib.Core.Path.{sym}
 use native.Mathlib.Omega.{arith}
-use borrow.Author.Rules.{rules}
 use Rattle.flat.proofs.Lines.{words-length}
 use Rattle.flat.proofs.line.words_length.Goals as goal
 

@@ -32,7 +32,7 @@ write_list-requires c =
     let measured : accepted c.in-Count.run' ≡ mapped (λ (os : List ℕ). fit64 (length os)) ((after ((flat_list c.args.list.now)) (each encode_param))) = sym (ap counted_of c.in-Count.is) ∙ c.list_length.ensures in
     let small = c.if-total-gt1048576.false in
     let d = c.encode.new.out in
-    record { total_value = sum_exact ((after ((flat_list c.args.list.now)) (each encode_param))) _ measured (omega arith); total_in_bounds = rw (length-take (length d - 8) (drop 8 d), length-drop 8 d) (omega (arith, c, c, c)) }
+    record { total_value = sum_exact ((after ((flat_list c.args.list.now)) (each encode_param))) _ measured (omega arith); total_in_bounds = rw (length-take (length d - 8) (drop 8 d), length-drop 8 d) (omega arith) }
 
 pub returns-in-Refused : goal.returns-in-Refused
 returns-in-Refused c = rw (written-framed c.args.message_type ((flat_list c.args.list.now)))

@@ -23,7 +23,7 @@ put-at-requires c =
     let r = written_turn c.loop-n.invariant.0 c.loop-n.invariant.1 c.loop-n-test.true c.in-Parameter.place c.in-Parameter.next.at (stepped _ c.in-Parameter.is) in
     let o = length-take (length c.loop-n.out - c.loop-n.at) (drop c.loop-n.at c.loop-n.out) in
     let d = length-drop c.loop-n.at c.loop-n.out in
-    (r.inside, (r.small, rw (o, d) (omega (arith, r.room, c.requires.total_in_bounds, c.loop-n.invariant.1.begun.same))))
+    record { length_bound = r.inside; length_le_most_value = r.small; length_bound_2 = rw (o, d) (omega (arith, r.room, c.requires.total_in_bounds, c.loop-n.invariant.1.begun.same)) }
 
 pub overflow_add-at : goal.overflow_add-at
 overflow_add-at c =

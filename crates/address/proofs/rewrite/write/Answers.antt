@@ -98,7 +98,7 @@ write_code-requires c =
     record {
       held_in = (sound p.read.known p.read.whole).code;
       ready = ready_behind (4 + c.write_title-a.result) t.begun t.place _ (codes p) (code-params with_unknown (kept_code c.args.value.now c.args.parts.code))
-      (omega (arith, planned-length p, c.requires.total_in_bounds, t.count));
+          (omega (arith, planned-length p, c.requires.total_in_bounds, t.count));
     }
 
 pub overflow_add-b : goal.overflow_add-b
@@ -128,7 +128,7 @@ write_ssn-requires c =
     record {
       held_in = (sound p.read.known p.read.whole).ssn;
       ready = ready_behind (4 + c.write_title-a.result + c.write_code.result) y.begun y.place _ (subs p) (sub-params with_unknown (kept_sub c.args.value.now c.args.parts.ssn))
-      (omega (arith, planned-length p, c.requires.total_in_bounds, t.count, y.count));
+          (omega (arith, planned-length p, c.requires.total_in_bounds, t.count, y.count));
     }
 
 pub overflow_add-c : goal.overflow_add-c

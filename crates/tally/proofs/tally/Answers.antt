@@ -22,12 +22,33 @@ use Rattle.tally.proofs.Calls.{adds, usable, row_within, call_gains}
 use Rattle.tally.proofs.Day.{list_first}
 use Rattle.tally.proofs.tally.Goals as goal
 
--- its row is there, and has room
-record Fits (p : tie.After-place) : Type 0 where
-  messages : p.place.result.row < length (start (listed_at p).before).args.messages.now
-  octets : p.place.result.row < length (start (listed_at p).before).args.octets.now
-  one : get_or (start (listed_at p).before).args.messages.now p.place.result.row 0 + 1 < 2 ^ 64
-  more : get_or (start (listed_at p).before).args.octets.now p.place.result.row 0 + p.place.result.octets < 2 ^ 64
+-- the row that gains is there, and has room
+record Fits (ms os : List ℕ) (g : Gain) : Type 0 where
+  messages : g.row < length ms
+  octets : g.row < length os
+  one : get_or ms g.row 0 + 1 < 2 ^ 64
+  more : get_or os g.row 0 + g.octets < 2 ^ 64
+
+fits :
+    (ds ns xs ms os : List ℕ) (g : Gain)
+    → ((i : ℕ) → get_or xs i 0 < 256)
+    → valid_rows (length ns) (rows ms os) ≡ true
+    → g ≡ adds ds ns xs
+    → Fits ms os g
+fits ds ns xs ms os g octets valid e =
+    let o = (valid_rows_lem (length ns) (rows ms os)).0 valid in
+    let row = row_within ds ns xs in
+    let same : g.row ≡ (adds ds ns xs).row = ap (λ (g : Gain). g.row) e in
+    let size : g.octets ≡ (adds ds ns xs).octets = ap (λ (g : Gain). g.octets) e in
+    let few = below_sum g.row ms in
+    let covered = o.covered g.row in
+    let short = placed-octets (members ds ns) xs (octets-of xs octets) in
+    record {
+      messages = omega (arith, row, same, o.messages);
+      octets = omega (arith, row, same, o.octets);
+      one = omega (arith, few, o.few);
+      more = omega (arith, few, o.few, covered, size, short);
+    }
 
 pub returns-then-not-load : goal.returns-then-not-load
 returns-then-not-load c = sym (list_first c.args.digits.now c.args.lengths.now c.args.input.now (rows c.args.messages.now c.args.octets.now)
@@ -57,25 +78,9 @@ raise-requires c =
     (length c.args.lengths.now)
     (rows c.args.messages.now c.args.octets.now)
     ≡ true = sym c.valid.ensures ∙ not-false c.valid.result c.if-not-valid.false-raw in
-    let fits : Fits c = let ds = c.args.digits.now in
-    let ns = c.args.lengths.now in
-    let xs = c.args.input.now in
-    let ms = c.args.messages.now in
-    let g = adding in
-    let o = (valid_rows_lem (length ns) (rows ms c.args.octets.now)).0 valid in
-    let row = row_within ds ns xs in
-    let same : c.place-gain.result.row ≡ (adds ds ns xs).row = ap (λ (g : Gain). g.row) g in
-    let size : c.place-gain.result.octets ≡ (adds ds ns xs).octets = ap (λ (g : Gain). g.octets) g in
-    let few = below_sum c.place-gain.result.row ms in
-    let covered = o.covered c.place-gain.result.row in
-    let short = placed-octets (members ds ns) xs (octets-of xs (λ i. omega (arith, c.type_inv.input i))) in
-    record {
-      messages = omega (arith, row, same, o.messages);
-      octets = omega (arith, row, same, o.octets);
-      one = omega (arith, few, o.few);
-      more = omega (arith, few, o.few, covered, size, short);
-    } in
-    let f = fits in record { place_in_bounds = f.messages; more_bound = f.one }
+    let octets : (i : ℕ) → get_or c.args.input.now i 0 < 256 = λ i. omega (arith, c.type_inv.input i) in
+    let f = fits c.args.digits.now c.args.lengths.now c.args.input.now c.args.messages.now c.args.octets.now c.place-gain.result octets valid adding in
+    record { place_in_bounds = f.messages; more_bound = f.one }
 
 pub raise-requires-2 : goal.raise-requires-2
 raise-requires-2 c =
@@ -87,25 +92,9 @@ raise-requires-2 c =
     (length c.args.lengths.now)
     (rows c.args.messages.now c.args.octets.now)
     ≡ true = sym c.valid.ensures ∙ not-false c.valid.result c.if-not-valid.false-raw in
-    let fits : Fits c = let ds = c.args.digits.now in
-    let ns = c.args.lengths.now in
-    let xs = c.args.input.now in
-    let ms = c.args.messages.now in
-    let g = adding in
-    let o = (valid_rows_lem (length ns) (rows ms c.args.octets.now)).0 valid in
-    let row = row_within ds ns xs in
-    let same : c.place-gain.result.row ≡ (adds ds ns xs).row = ap (λ (g : Gain). g.row) g in
-    let size : c.place-gain.result.octets ≡ (adds ds ns xs).octets = ap (λ (g : Gain). g.octets) g in
-    let few = below_sum c.place-gain.result.row ms in
-    let covered = o.covered c.place-gain.result.row in
-    let short = placed-octets (members ds ns) xs (octets-of xs (λ i. omega (arith, c.type_inv.input i))) in
-    record {
-      messages = omega (arith, row, same, o.messages);
-      octets = omega (arith, row, same, o.octets);
-      one = omega (arith, few, o.few);
-      more = omega (arith, few, o.few, covered, size, short);
-    } in
-    let f = fits in record { place_in_bounds = f.octets; more_bound = f.more }
+    let octets : (i : ℕ) → get_or c.args.input.now i 0 < 256 = λ i. omega (arith, c.type_inv.input i) in
+    let f = fits c.args.digits.now c.args.lengths.now c.args.input.now c.args.messages.now c.args.octets.now c.place-gain.result octets valid adding in
+    record { place_in_bounds = f.octets; more_bound = f.more }
 
 pub returns : goal.returns
 returns c =

@@ -28,7 +28,7 @@ write_codes-requires c = let d = c.decimal in
 pub distinct-requires : goal.distinct-requires
 distinct-requires c = let v = c.valid_lengths in
     let l : valid_lengths (length c.args.digits.now) c.args.lengths.now ≡ true = sym v.ensures ∙ not-false v.result c.if-not-valid_lengths.false-raw in
-    omega (arith, lengths_few (length c.args.digits.now) c.args.lengths.now l, c.distinct-arg-2-1.given.0)
+    omega (arith, lengths_few (length c.args.digits.now) c.args.lengths.now l, c.distinct-arg-2-1.given)
 
 pub returns : goal.returns
 returns c = let d = c.decimal in

@@ -7,7 +7,6 @@ use mathlib.Core.List.{List}
 use native.Mathlib.Omega.{arith}
 use lib.ListN.{length, get_or}
 use borrow.Author.Rules.{rules}
-use borrow.Author.Tests.{not-true, not-false}
 use Rattle.bcd.specs.Outcome.{accepted}
 use Rattle.bcd.proofs.Outcomes.{octets-of}
 use Rattle.tally.specs.declared.place.Gain.{Gain}
@@ -52,60 +51,60 @@ fits ds ns xs ms os g octets valid e =
 
 pub returns-then-not-load : goal.returns-then-not-load
 returns-then-not-load c = sym (list_first c.args.digits.now c.args.lengths.now c.args.input.now (rows c.args.messages.now c.args.octets.now)
-    (inl (sym c.load.ensures.value ∙ not-true c.load.result c.if-not-load.true-raw)))
+    (inl (sym c.load.ensures.value ∙ c.if-not-load.true)))
 
 pub valid-requires : goal.valid-requires
 valid-requires c =
-    let listed : valid_members c.args.digits.now c.args.lengths.now ≡ true = sym c.load.ensures.value ∙ not-false c.load.result c.if-not-load.false-raw in
-    (load_kept c.args.digits.now c.args.lengths.now _ _ listed (c.load.ensures.held_after (not-false c.load.result c.if-not-load.false-raw))).usable.few
+    let listed : valid_members c.args.digits.now c.args.lengths.now ≡ true = sym c.load.ensures.value ∙ c.if-not-load.false in
+    (load_kept c.args.digits.now c.args.lengths.now _ _ listed (c.load.ensures.held_after c.if-not-load.false)).usable.few
 
 pub returns-then-not-valid : goal.returns-then-not-valid
 returns-then-not-valid c = sym (list_first c.args.digits.now c.args.lengths.now c.args.input.now (rows c.args.messages.now c.args.octets.now)
-    (inr (sym c.valid.ensures ∙ not-true c.valid.result c.if-not-valid.true-raw)))
+    (inr (sym c.valid.ensures ∙ c.if-not-valid.true)))
 
 pub place-gain-requires : goal.place-gain-requires
 place-gain-requires c =
-    let listed : valid_members c.args.digits.now c.args.lengths.now ≡ true = sym c.load.ensures.value ∙ not-false c.load.result c.if-not-load.false-raw in
-    (load_kept c.args.digits.now c.args.lengths.now _ _ listed (c.load.ensures.held_after (not-false c.load.result c.if-not-load.false-raw))).usable
+    let listed : valid_members c.args.digits.now c.args.lengths.now ≡ true = sym c.load.ensures.value ∙ c.if-not-load.false in
+    (load_kept c.args.digits.now c.args.lengths.now _ _ listed (c.load.ensures.held_after c.if-not-load.false)).usable
 
 pub raise-requires : goal.raise-requires
 raise-requires c =
-    let listed : valid_members c.args.digits.now c.args.lengths.now ≡ true = sym c.load.ensures.value ∙ not-false c.load.result c.if-not-load.false-raw in
+    let listed : valid_members c.args.digits.now c.args.lengths.now ≡ true = sym c.load.ensures.value ∙ c.if-not-load.false in
     let adding : c.place-gain.result
     ≡ adds c.args.digits.now c.args.lengths.now c.args.input.now = c.place-gain.ensures (members c.args.digits.now c.args.lengths.now)
-    (load_kept c.args.digits.now c.args.lengths.now _ _ listed (c.load.ensures.held_after (not-false c.load.result c.if-not-load.false-raw))).kept in
+    (load_kept c.args.digits.now c.args.lengths.now _ _ listed (c.load.ensures.held_after c.if-not-load.false)).kept in
     let valid : valid_rows
     (length c.args.lengths.now)
     (rows c.args.messages.now c.args.octets.now)
-    ≡ true = sym c.valid.ensures ∙ not-false c.valid.result c.if-not-valid.false-raw in
+    ≡ true = sym c.valid.ensures ∙ c.if-not-valid.false in
     let octets : (i : ℕ) → get_or c.args.input.now i 0 < 256 = λ i. omega (arith, c.type_inv.input i) in
     let f = fits c.args.digits.now c.args.lengths.now c.args.input.now c.args.messages.now c.args.octets.now c.place-gain.result octets valid adding in
     record { place_in_bounds = f.messages; more_bound = f.one }
 
 pub raise-requires-2 : goal.raise-requires-2
 raise-requires-2 c =
-    let listed : valid_members c.args.digits.now c.args.lengths.now ≡ true = sym c.load.ensures.value ∙ not-false c.load.result c.if-not-load.false-raw in
+    let listed : valid_members c.args.digits.now c.args.lengths.now ≡ true = sym c.load.ensures.value ∙ c.if-not-load.false in
     let adding : c.place-gain.result
     ≡ adds c.args.digits.now c.args.lengths.now c.args.input.now = c.place-gain.ensures (members c.args.digits.now c.args.lengths.now)
-    (load_kept c.args.digits.now c.args.lengths.now _ _ listed (c.load.ensures.held_after (not-false c.load.result c.if-not-load.false-raw))).kept in
+    (load_kept c.args.digits.now c.args.lengths.now _ _ listed (c.load.ensures.held_after c.if-not-load.false)).kept in
     let valid : valid_rows
     (length c.args.lengths.now)
     (rows c.args.messages.now c.args.octets.now)
-    ≡ true = sym c.valid.ensures ∙ not-false c.valid.result c.if-not-valid.false-raw in
+    ≡ true = sym c.valid.ensures ∙ c.if-not-valid.false in
     let octets : (i : ℕ) → get_or c.args.input.now i 0 < 256 = λ i. omega (arith, c.type_inv.input i) in
     let f = fits c.args.digits.now c.args.lengths.now c.args.input.now c.args.messages.now c.args.octets.now c.place-gain.result octets valid adding in
     record { place_in_bounds = f.octets; more_bound = f.more }
 
 pub returns : goal.returns
 returns c =
-    let listed : valid_members c.args.digits.now c.args.lengths.now ≡ true = sym c.load.ensures.value ∙ not-false c.load.result c.if-not-load.false-raw in
+    let listed : valid_members c.args.digits.now c.args.lengths.now ≡ true = sym c.load.ensures.value ∙ c.if-not-load.false in
     let valid : valid_rows
     (length c.args.lengths.now)
     (rows c.args.messages.now c.args.octets.now)
-    ≡ true = sym c.valid.ensures ∙ not-false c.valid.result c.if-not-valid.false-raw in
+    ≡ true = sym c.valid.ensures ∙ c.if-not-valid.false in
     let adding : c.place-gain.result
     ≡ adds c.args.digits.now c.args.lengths.now c.args.input.now = c.place-gain.ensures (members c.args.digits.now c.args.lengths.now)
-    (load_kept c.args.digits.now c.args.lengths.now _ _ listed (c.load.ensures.held_after (not-false c.load.result c.if-not-load.false-raw))).kept in
+    (load_kept c.args.digits.now c.args.lengths.now _ _ listed (c.load.ensures.held_after c.if-not-load.false)).kept in
     let g = c.place-gain.result in
     let ds = c.args.digits.now in
     let ns = c.args.lengths.now in

@@ -25,7 +25,11 @@ add-sum-requires c =
     let m = c.loop-n.invariant in
     let e = stepped _ c.in-Parameter.is in
     let f = step_inv c.args.input.now c.loop-n.c.at e in
-    (f.inside, (found_small c.args.input.now _ _ _ octets e, omega (arith, m.small, c.loop-n-test.true, c.requires)))
+    record {
+      length_bound = f.inside;
+      length_le_most_value = found_small c.args.input.now _ _ _ octets e;
+      sum_bound = omega (arith, m.small, c.loop-n-test.true, c.requires);
+    }
 
 pub loop-n-preserved : goal.loop-n-preserved
 loop-n-preserved c =

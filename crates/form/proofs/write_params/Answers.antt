@@ -73,7 +73,8 @@ put_settled-at-requires c =
     let met : step_at c.args.input.now c.loop-k.c.at
     ≡ accepted (found c.in-Parameter.place c.in-Parameter.next.at) = stepped _ c.in-Parameter.is in
     let here : Turn c.args.input.now c.loop-k.out c.in-Parameter.place c.loop-k.at = turn c.loop-k.invariant.0 c.loop-k.invariant.1 (omega (arith, c.loop-k-test.true)) c.requires.run_in_bounds octets _ _ met in
-    turn_asks here
+    let a = turn_asks here in
+    record { value_len_bound = a.0; placeable = a.1 }
 
 pub overflow_add-at : goal.overflow_add-at
 overflow_add-at c =

@@ -1,12 +1,12 @@
 -- `tally::longest::longest` meets its contract: the loop has found the longest of the first i members.
 use Prim.Native.Nat.{◌≤◌, ◌-◌}
-use mathlib.Core.Logic.{⊎_elim}
 use native.Mathlib.Omega.{arith}
-use borrow.Author.Tests.{leb-true, leb-false, eqb-true, eqb-false}
+use borrow.Author.Tests.{leb-true}
 use lib.ListN.{length}
 use Rattle.tally.proofs.Finding.{Found, found_none, found_better, found_other, found_end}
 use borrow.Author.Rules.{rules}
 use Rattle.tally.proofs.longest.longest.Goals as goal
+use Rattle.tally.proofs.longest.longest.Goals.{then-best-k+then-k-n+then-first-k, else-best-k, else-best-k-via-then-best-k+then-k-n+else-first-k, else-best-k-via-then-best-k+else-k-n, else-best-k-via-else-best-k}
 
 pub loop-i-init : goal.loop-i-init
 loop-i-init c = (search rules, found_none _ _ _ _ c.requires.usable)
@@ -28,15 +28,19 @@ loop-i-smaller c = omega arith
 
 pub loop-i-preserved : goal.loop-i-preserved
 loop-i-preserved c = let turn = found_better c.args.lengths.now c.args.held.now c.args.first.now c.args.n c.loop-i.best c.loop-i.row c.loop-i.i c.loop-i-test.true c.loop-i.invariant.1 in
-    let stay = found_other c.args.lengths.now c.args.held.now c.args.first.now c.args.n c.loop-i.best c.loop-i.row c.loop-i.i c.loop-i-test.true c.loop-i.invariant.1 c.else-best-k.best c.else-best-k.row in (
+    let stay = found_other c.args.lengths.now c.args.held.now c.args.first.now c.args.n c.loop-i.best c.loop-i.row c.loop-i.i c.loop-i-test.true c.loop-i.invariant.1 c.if-best-k.best c.if-best-k.row in (
       search rules,
-      ⊎_elim
-          (λ w. turn c.else-best-k.best c.else-best-k.row w.0.taken (leb-true _ _ w.1.taken) (eqb-true _ _ w.4.taken) w.5 w.6)
-          (λ w. stay
+      elim c.if-best-k.branch [
+        then-best-k+then-k-n+then-first-k w ↦ turn c.if-best-k.best c.if-best-k.row w.if-best-k.true w.if-k-n.true w.if-first-k.true w.best-is w.row-is
+      | else-best-k w ↦ stay
           (λ more short same.
-          ⊎_elim (λ u. eqb-false _ _ u.4.left same) (⊎_elim (λ u. omega (arith, leb-false)) (λ u. omega arith)) w.0.came)
-          w.1 w.2)
-          c.else-best-k.branch,
+          elim w.else-best-k.branch [
+            else-best-k-via-then-best-k+then-k-n+else-first-k u ↦ u.if-first-k.false same
+          | else-best-k-via-then-best-k+else-k-n u ↦ omega arith
+          | else-best-k-via-else-best-k u ↦ omega arith
+          ])
+          w.best-is w.row-is
+      ],
     )
 
 pub returns : goal.returns

@@ -2,7 +2,6 @@
 use borrow.Author.Rules.{rules}
 use Prim.Native.Nat.{◌+◌, ◌-◌, ◌≤◌}
 use mathlib.Core.Path.{◌≡◌, refl, sym, ap, ◌∙◌}
-use mathlib.Core.Logic.{⊎_elim}
 use mathlib.Core.Bool.{◌&&◌}
 use native.Mathlib.Omega.{arith}
 use lib.Dec.{leb}
@@ -12,6 +11,7 @@ use borrow.Author.Tests.{le-leb, lt-leb}
 use Rattle.tally.specs.Members.{between, every}
 use Rattle.tally.proofs.Lists.{ends_next, every_next}
 use Rattle.tally.proofs.members.decimal.Goals as goal
+use Rattle.tally.proofs.members.decimal.Goals.{then-c-low, else-c-low, then-high-c, else-high-c}
 
 pub loop-i-init : goal.loop-i-init
 loop-i-init c = (search rules, refl)
@@ -19,8 +19,8 @@ loop-i-init c = (search rules, refl)
 pub loop-i-preserved : goal.loop-i-preserved
 loop-i-preserved c = let ds = c.args.digits.now in
     let d = get_or ds c.loop-i.i 0 in
-    let low : c.if-c-low.low ≡ c.loop-i.low - (c.loop-i.low - d) = ⊎_elim (λ w. omega arith) (λ w. omega arith) c.if-c-low.branch in
-    let high : c.if-high-c.high ≡ c.loop-i.high + (d - c.loop-i.high) = ⊎_elim (λ w. omega arith) (λ w. omega arith) c.if-high-c.branch in (
+    let low : c.if-c-low.low ≡ c.loop-i.low - (c.loop-i.low - d) = elim c.if-c-low.branch [ then-c-low w ↦ omega arith | else-c-low w ↦ omega arith ] in
+    let high : c.if-high-c.high ≡ c.loop-i.high + (d - c.loop-i.high) = elim c.if-high-c.branch [ then-high-c w ↦ omega arith | else-high-c w ↦ omega arith ] in (
       search rules,
       ends_next 0x30 0x39 c.loop-i.low c.loop-i.high d c.if-c-low.low c.if-high-c.high low high
           ∙ ap (λ b. b && between 0x30 0x39 d) c.loop-i.invariant.1

@@ -2,7 +2,6 @@
 use borrow.Author.Rules.{rules}
 use Prim.Native.Nat.{◌-◌}
 use mathlib.Core.Path.{◌≡◌, sym, ap, ◌∙◌}
-use mathlib.Core.Logic.{⊎_elim}
 use lib.ListN.{length}
 use Rattle.bcd.proofs.Outcomes.{bounded-within}
 use Rattle.parameter.specs.declared.Step.{Step}
@@ -10,6 +9,7 @@ use Rattle.parameter.specs.Walk.{step_at}
 use Rattle.parameter.specs.Answers.{step_of, found_of}
 use Rattle.tally.proofs.Looking.{Keeping, keeping_start, keeping_same, keeping_other, kept_end, kept_refused, kept_out}
 use Rattle.tally.proofs.place.last.Goals as goal
+use Rattle.tally.proofs.place.last.Goals.{then-p-tag, else-p-tag}
 
 pub loop-n-init : goal.loop-n-init
 loop-n-init c = keeping_start c.args.bytes.now c.args.from c.args.tag
@@ -21,10 +21,10 @@ loop-n-preserved c =
     sym (bounded-within xs (step_at xs at) c.requires.size) ∙ sym c.step.ensures ∙ ap step_of e in
     let i = c.loop-n.invariant in
     let e = stepped _ c.in-Parameter.is in
-    ⊎_elim
-    (λ w. keeping_same i c.loop-n-test.true c.in-Parameter.p c.in-Parameter.next.at e _ (ap found_of w.1) w.0.taken)
-    (λ w. keeping_other i c.loop-n-test.true c.in-Parameter.p c.in-Parameter.next.at e _ (ap found_of w.1) w.0.left)
-    c.if-p-tag.branch
+    elim c.if-p-tag.branch [
+      then-p-tag w ↦ keeping_same i c.loop-n-test.true c.in-Parameter.p c.in-Parameter.next.at e _ (ap found_of w.found-is) w.if-p-tag.true
+    | else-p-tag w ↦ keeping_other i c.loop-n-test.true c.in-Parameter.p c.in-Parameter.next.at e _ (ap found_of w.found-is) w.if-p-tag.false
+    ]
 
 pub returns-in-End : goal.returns-in-End
 returns-in-End c =

@@ -4,7 +4,6 @@ use Prim.Native.Nat.{◌+◌, ◌≤◌}
 use mathlib.Core.Path.{◌≡◌, sym, ap, ◌∙◌}
 use mathlib.Core.Bool.{true}
 use mathlib.Core.Option.{none, some}
-use borrow.Author.Tests.{not-true, not-false}
 use native.Mathlib.Omega.{arith}
 use lib.ListN.{length}
 use Rattle.bcd.specs.Outcome.{accepted, mapped}
@@ -22,7 +21,7 @@ use Rattle.tally.proofs.Placing.{cldt_row, other_row}
 use Rattle.tally.proofs.place.row_of.Goals as goal
 
 pub returns-then-not-is_cldt : goal.returns-then-not-is_cldt
-returns-then-not-is_cldt c = λ ps m kept e. kept_count kept ∙ other_row ps m (sym (c.is_cldt.ensures m e) ∙ not-true _ c.if-not-is_cldt.true-raw)
+returns-then-not-is_cldt c = λ ps m kept e. kept_count kept ∙ other_row ps m (sym (c.is_cldt.ensures m e) ∙ c.if-not-is_cldt.true)
 
 pub first-requires : goal.first-requires
 first-requires c =
@@ -52,7 +51,7 @@ destination_row-requires c =
 pub returns-in-At : goal.returns-in-At
 returns-in-At c =
     let told : (f : Found) → c.first.result ≡ f → found_of f ≡ mapped (first_with 0x0103) (places c.args.input.now 8) = λ f e. sym (ap found_of e) ∙ c.first.ensures in
-    let cldt : (m : Meaning) → meaning built_in c.args.input.now ≡ accepted m → is_cldt m.type ≡ true = λ m e. sym (c.is_cldt.ensures m e) ∙ not-false _ c.if-not-is_cldt.false-raw in
+    let cldt : (m : Meaning) → meaning built_in c.args.input.now ≡ accepted m → is_cldt m.type ≡ true = λ m e. sym (c.is_cldt.ensures m e) ∙ c.if-not-is_cldt.false in
     let f = told _ c.in-At.is in
     λ ps m kept e.
     let w = means c.args.input.now m e in
@@ -62,7 +61,7 @@ returns-in-At c =
 
 pub returns-in-None : goal.returns-in-None
 returns-in-None c =
-    let cldt : (m : Meaning) → meaning built_in c.args.input.now ≡ accepted m → is_cldt m.type ≡ true = λ m e. sym (c.is_cldt.ensures m e) ∙ not-false _ c.if-not-is_cldt.false-raw in
+    let cldt : (m : Meaning) → meaning built_in c.args.input.now ≡ accepted m → is_cldt m.type ≡ true = λ m e. sym (c.is_cldt.ensures m e) ∙ c.if-not-is_cldt.false in
     let told : (f : Found) → c.first.result ≡ f → found_of f ≡ mapped (first_with 0x0103) (places c.args.input.now 8) = λ f e. sym (ap found_of e) ∙ c.first.ensures in
     λ ps m kept e.
     let w = means c.args.input.now m e in

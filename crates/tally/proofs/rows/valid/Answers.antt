@@ -4,7 +4,7 @@ use mathlib.Core.Path.{refl, sym, ◌∙◌}
 use native.Mathlib.Omega.{arith}
 use lib.ListN.{length}
 use borrow.Author.Rules.{rules}
-use borrow.Author.Tests.{eq-eqb, ne_eqb, not-true, not-false}
+use borrow.Author.Tests.{eq-eqb, ne_eqb}
 use Rattle.tally.specs.Rows.{valid_rows}
 use Rattle.tally.proofs.rows.valid.Goals as goal
 
@@ -21,13 +21,13 @@ pub returns-then-not-few : goal.returns-then-not-few
 unfolding valid_rows
 returns-then-not-few c = rw (eq-eqb (length c.args.messages.now) (c.args.members + 2) (omega (arith, c)))
     (rw (eq-eqb (length c.args.octets.now) (c.args.members + 2) (omega (arith, c)))
-    (rw (← c.few.ensures, not-true c.few.result c.if-not-few.true-raw) refl))
+    (rw (← c.few.ensures, c.if-not-few.true) refl))
 
 pub proportionate-requires : goal.proportionate-requires
-proportionate-requires c = record { messages_len = omega (arith, c); most_messages_value = sym c.few.ensures ∙ not-false c.few.result c.if-not-few.false-raw }
+proportionate-requires c = record { messages_len = omega (arith, c); most_messages_value = sym c.few.ensures ∙ c.if-not-few.false }
 
 pub returns : goal.returns
 unfolding valid_rows
 returns c = rw (eq-eqb (length c.args.messages.now) (c.args.members + 2) (omega (arith, c)))
     (rw (eq-eqb (length c.args.octets.now) (c.args.members + 2) (omega (arith, c)))
-    (rw (← c.few.ensures, not-false c.few.result c.if-not-few.false-raw) c.proportionate.ensures))
+    (rw (← c.few.ensures, c.if-not-few.false) c.proportionate.ensures))

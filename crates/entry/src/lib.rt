@@ -40,13 +40,7 @@ pub fn sua_read(input: &[u8], out: &mut [u8], report: &mut [u64]) -> u64
 
 // Writes the message of a class, a type and a flat list of parameters. 4, 15, 10 in order, 12, 14. 12 is the message's; the
 // list has no bound of its own.
-pub fn sua_encode(
-    class: u8,
-    msg_type: u8,
-    list: &[u8],
-    out: &mut [u8],
-    report: &mut [u64],
-) -> u64
+pub fn sua_encode(class: u8, msg_type: u8, list: &[u8], out: &mut [u8], report: &mut [u64]) -> u64
     ensures { entered result out.new report.new
         ≡ enter (deliver (encode_flat class msg_type list.now) out.old) report.old }
 {

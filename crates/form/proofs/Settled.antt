@@ -6,7 +6,7 @@ use mathlib.Core.Logic.{◌⊎◌, ◌↔◌}
 use mathlib.Core.List.{List, [], ◌∷◌, ◌++◌}
 use native.Mathlib.Omega.{arith}
 use lib.ListN.{length, drop}
-use Rattle.bcd.specs.Outcome.{accepted, refused, after, mapped, each, All, Octets, most}
+use Rattle.bcd.specs.Outcome.{accepted, refused, after, mapped, All, Octets, most}
 use Rattle.bcd.specs.Digits.{Alphabet, Lawful}
 use Rattle.bcd.proofs.Outcomes.{never, after_inv, mapped_inv}
 use Rattle.parameter.specs.Parameter.{Param, round_up, run_length, four_in}

@@ -23,6 +23,7 @@ use words::{lent_codes, one, place, string, table_at};
 
 // Standard input and standard output, as the system numbers them.
 const STDIN: i32 = 0;
+
 const STDOUT: i32 = 1;
 
 // Where the name of a call starts: a first word `beyond` is skipped.

@@ -15,6 +15,7 @@ use parameter::{Number, as_u32};
 
 // Standard input and standard output, as the system numbers them.
 const STDIN: i32 = 0;
+
 const STDOUT: i32 = 1;
 
 // A number that is there, or 0.

@@ -3,6 +3,7 @@
 
 // Standard input and standard output, as the system numbers them.
 const STDIN: i32 = 0;
+
 const STDOUT: i32 = 1;
 
 fn main() {

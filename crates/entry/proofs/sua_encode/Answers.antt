@@ -1,7 +1,6 @@
 -- `entry::sua_encode` meets its contract: the answer is stored in the report.
 use Rattle.bcd.specs.Answers.{counted_of}
 use Rattle.report.proofs.Reports.{entry_stored}
-use borrow.Author.Rules.{rules}
 use Rattle.entry.proofs.sua_encode.Goals as goal
 
 pub returns : goal.returns

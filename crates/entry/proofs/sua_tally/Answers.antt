@@ -9,7 +9,6 @@ use Rattle.report.specs.Report.{numbers, reported}
 use Rattle.tally.specs.Rows.{Rows}
 use Rattle.tally.specs.Tally.{Tallied, tallied}
 use Rattle.entry.specs.Entries.{entered_rows, enter_rows}
-use borrow.Author.Rules.{rules}
 use Rattle.entry.proofs.sua_tally.Goals as goal
 
 -- what the entry leaves, from the answer that it stored

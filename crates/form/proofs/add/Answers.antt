@@ -10,7 +10,6 @@ use Rattle.parameter.specs.Parameter.{Param, run_length}
 use Rattle.parameter.specs.Walk.{valued}
 use Rattle.form.specs.Form.{settled_param}
 use Rattle.form.proofs.Passes.{valued_part, valued-length, length_small, added}
-use borrow.Author.Rules.{rules}
 use Rattle.form.proofs.add.Goals as goal
 
 pub overflow_add-result : goal.overflow_add-result

@@ -12,7 +12,6 @@ use Rattle.parameter.specs.Parameter.{padded_length, most_value}
 use Rattle.address.specs.Address.{rewrite_address}
 use Rattle.form.proofs.Passes.{rewrite_small}
 use Rattle.form.proofs.Placing.{placeable_address, placeable_raw, counter_placed, raw_placed, rewritten_there, address-put}
-use borrow.Author.Rules.{rules}
 use borrow.Author.Tests.{eq-eqb, ne_eqb}
 use Rattle.form.proofs.put_settled.Goals as goal
 

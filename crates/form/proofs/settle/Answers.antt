@@ -10,14 +10,12 @@ use Rattle.bcd.specs.Digits.{built_in}
 use Rattle.bcd.proofs.Outcomes.{octets-of, deliver_too_long, deliver-passed_on, deliver_refused}
 use Rattle.parameter.specs.Parameter.{run_octets, run_length}
 use Rattle.bcd.proofs.Characters.{built_in_lawful}
-use Rattle.message.specs.declared.header.CommonHeader.{CommonHeader}
 use Rattle.message.specs.Message.{read_header, header_read_of}
 use Rattle.message.proofs.Listing.{header_within, message-done}
 use Rattle.form.specs.Form.{settled}
 use Rattle.form.specs.Steps.Passes.{settled_run}
 use Rattle.form.proofs.Passes.{settled_refused, length_run, run_known}
 use Rattle.form.proofs.Measuring.{run_small}
-use borrow.Author.Rules.{rules}
 use Rattle.form.proofs.settle.Goals as goal
 
 pub measure-requires : goal.measure-requires

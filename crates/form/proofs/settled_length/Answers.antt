@@ -14,7 +14,6 @@ use Rattle.message.proofs.Listing.{header_within}
 use Rattle.form.specs.Form.{settled}
 use Rattle.form.proofs.Passes.{settled_refused, length_run}
 use Rattle.form.proofs.Measuring.{run_small}
-use borrow.Author.Rules.{rules}
 use Rattle.form.proofs.settled_length.Goals as goal
 
 pub measure-requires : goal.measure-requires

@@ -4,7 +4,6 @@ use lib.ListN.{length}
 use Rattle.bcd.specs.Outcome.{mapped}
 use Rattle.bcd.specs.Answers.{counted_of}
 use Rattle.form.proofs.Passes.{rewrite_read, counter_length, raw_length, address-length, address_refused}
-use borrow.Author.Rules.{rules}
 use borrow.Author.Tests.{eq-eqb, ne_eqb}
 use Rattle.form.proofs.settled_length_of.Goals as goal
 

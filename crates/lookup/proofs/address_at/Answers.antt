@@ -4,13 +4,11 @@ use mathlib.Core.Path.{◌≡◌, sym, ap, ◌∙◌}
 use mathlib.Core.List.{List}
 use native.Mathlib.Omega.{arith}
 use lib.ListN.{length}
-use borrow.Author.Rules.{rules}
 use Rattle.bcd.specs.Outcome.{Octets}
 use Rattle.bcd.proofs.Outcomes.{octets-of}
 use Rattle.parameter.specs.declared.table.Found.{Found}
-use Rattle.parameter.specs.declared.Place.{Place}
 use Rattle.parameter.specs.Walk.{valued}
-use Rattle.parameter.specs.Table.{Table, table}
+use Rattle.parameter.specs.Table.{table}
 use Rattle.parameter.specs.Answers.{found_of}
 use Rattle.parameter.proofs.Records.{value-length}
 use Rattle.address.specs.Titles.{verdict_of}

@@ -1,10 +1,9 @@
 -- `lookup::first_address` meets its contract.
 use mathlib.Core.Path.{sym, ap, ◌∙◌}
 use mathlib.Core.Option.{Option}
-use borrow.Author.Rules.{rules}
 use Rattle.bcd.specs.Outcome.{Outcome}
 use Rattle.parameter.specs.declared.Place.{Place}
-use Rattle.parameter.specs.Table.{Table, table}
+use Rattle.parameter.specs.Table.{table}
 use Rattle.lookup.specs.Accessors.{address_found}
 use Rattle.lookup.proofs.Accessing.{find_inside}
 use Rattle.lookup.proofs.first_address.Goals as goal

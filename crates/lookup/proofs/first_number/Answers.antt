@@ -1,8 +1,7 @@
 -- `lookup::first_number` meets its contract.
 use mathlib.Core.Path.{sym, ◌∙◌}
-use borrow.Author.Rules.{rules}
 use Rattle.parameter.specs.Parameter.{four_in}
-use Rattle.parameter.specs.Table.{Table, table}
+use Rattle.parameter.specs.Table.{table}
 use Rattle.lookup.specs.Accessors.{of_four}
 use Rattle.lookup.proofs.Accessing.{find_inside, read_found}
 use Rattle.lookup.proofs.first_number.Goals as goal

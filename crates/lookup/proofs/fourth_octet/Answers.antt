@@ -1,7 +1,6 @@
 -- `lookup::fourth_octet` meets its contract.
 use mathlib.Core.Path.{◌≡◌, sym, ap}
 use mathlib.Core.Option.{map}
-use borrow.Author.Rules.{rules}
 use Rattle.bcd.specs.Outcome.{mapped}
 use Rattle.parameter.specs.declared.Number.{Number}
 use Rattle.parameter.specs.Answers.{number_of}

@@ -1,7 +1,5 @@
 -- `lookup::move_starts` meets its contract: the loop has moved the first i starts.
-use Prim.Native.Nat.{◌≤◌, ◌-◌}
 use native.Mathlib.Omega.{arith}
-use lib.ListN.{take}
 use lib.Seq.{take_all}
 use borrow.Author.Rules.{rules}
 use Rattle.bcd.proofs.Writing.{Begun}

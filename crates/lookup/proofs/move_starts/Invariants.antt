@@ -1,11 +1,8 @@
 -- `lookup::move_starts` meets its contract: the loop has moved the first i starts.
 use Prim.Native.Nat.{◌≤◌, ◌-◌}
-use native.Mathlib.Omega.{arith}
 use lib.ListN.{take}
-use lib.Seq.{take_all}
-use borrow.Author.Rules.{rules}
 use Rattle.bcd.proofs.Writing.{Begun}
-use Rattle.lookup.proofs.Addresses.{moved_starts, moved_length, start_fits, start-moved}
+use Rattle.lookup.proofs.Addresses.{moved_starts}
 use Rattle.lookup.proofs.move_starts.Given as goal
 
 abbrev pub invariant-loop-i : goal.invariant-loop-i

@@ -3,9 +3,7 @@ use Prim.Native.Nat.{◌+◌, ◌-◌, ◌≤◌}
 use mathlib.Core.Path.{◌≡◌, sym, ap, ◌∙◌}
 use native.Mathlib.Omega.{arith}
 use lib.ListN.{length}
-use borrow.Author.Rules.{rules}
 use Rattle.bcd.specs.Outcome.{accepted, mapped}
-use Rattle.parameter.specs.declared.Place.{Place}
 use Rattle.parameter.specs.declared.table.Found.{Found}
 use Rattle.parameter.specs.Parameter.{four_in}
 use Rattle.parameter.specs.Answers.{found_of}

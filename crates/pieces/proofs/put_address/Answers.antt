@@ -1,16 +1,13 @@
 -- `pieces::put_address` meets its contract: the value at the fifth octet, framed.
-use Prim.Native.Nat.{ℕ, ◌≤◌}
-use mathlib.Core.Path.{◌≡◌, refl, sym, ap, ◌∙◌}
-use mathlib.Core.List.{List}
+use Prim.Native.Nat.{◌≤◌}
+use mathlib.Core.Path.{refl, sym, ap, ◌∙◌}
 use native.Mathlib.Omega.{arith}
-use Rattle.bcd.specs.Outcome.{Outcome, accepted}
 use Rattle.bcd.specs.Answers.{counted_of}
 use Rattle.bcd.proofs.Outcomes.{accepted_inj, never}
 use Rattle.parameter.specs.Parameter.{most_value}
 use Rattle.parameter.specs.Table.{table}
 use Rattle.address.specs.Given.{encode_address_as}
-use Rattle.pieces.proofs.Addressing.{Small, address_small, There, there, address_answer, address-put}
-use borrow.Author.Rules.{rules}
+use Rattle.pieces.proofs.Addressing.{Small, address_small, there, address_answer, address-put}
 use Rattle.pieces.proofs.put_address.Goals as goal
 
 pub slice_bounds-encode_as-count : goal.slice_bounds-encode_as-count

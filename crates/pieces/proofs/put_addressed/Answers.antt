@@ -30,59 +30,59 @@ parted src sv s dst dv d ps room h =
 pub put_address-a-requires : goal.put_address-a-requires
 put_address-a-requires c =
     let t = parted c.args.src c.args.sv.now (table c.args.st.now c.args.ss.now c.args.sl.now) c.args.dst c.args.dv.now (table c.args.dt.now c.args.ds.now c.args.dl.now)
-        (run_params c.args.x c.args.y c.args.z c.args.«data».now []) (length c.args.out.now) c.requires in
+    (run_params c.args.x c.args.y c.args.z c.args.«data».now []) (length c.args.out.now) c.requires in
     one_asked c.args.out.now t
 
 pub slice_bounds-put_address-count : goal.slice_bounds-put_address-count
 slice_bounds-put_address-count c =
     let t = parted c.args.src c.args.sv.now (table c.args.st.now c.args.ss.now c.args.sl.now) c.args.dst c.args.dv.now (table c.args.dt.now c.args.ds.now c.args.dl.now)
-        (run_params c.args.x c.args.y c.args.z c.args.«data».now []) (length c.args.out.now) c.requires in
+    (run_params c.args.x c.args.y c.args.z c.args.«data».now []) (length c.args.out.now) c.requires in
     omega (arith, one_reaches c.args.out.now t c.put_address-a.ensures)
 
 pub slice_bounds-put_address-start : goal.slice_bounds-put_address-start
 slice_bounds-put_address-start c =
     let t = parted c.args.src c.args.sv.now (table c.args.st.now c.args.ss.now c.args.sl.now) c.args.dst c.args.dv.now (table c.args.dt.now c.args.ds.now c.args.dl.now)
-        (run_params c.args.x c.args.y c.args.z c.args.«data».now []) (length c.args.out.now) c.requires in
+    (run_params c.args.x c.args.y c.args.z c.args.«data».now []) (length c.args.out.now) c.requires in
     omega (arith, one_reaches c.args.out.now t c.put_address-a.ensures)
 
 pub put_address-requires : goal.put_address-requires
 put_address-requires c =
     let t = parted c.args.src c.args.sv.now (table c.args.st.now c.args.ss.now c.args.sl.now) c.args.dst c.args.dv.now (table c.args.dt.now c.args.ds.now c.args.dl.now)
-        (run_params c.args.x c.args.y c.args.z c.args.«data».now []) (length c.args.out.now) c.requires in
+    (run_params c.args.x c.args.y c.args.z c.args.«data».now []) (length c.args.out.now) c.requires in
     two_asked c.args.out.now t c.put_address-a.ensures
 
 pub overflow_add-b : goal.overflow_add-b
 overflow_add-b c =
     let t = parted c.args.src c.args.sv.now (table c.args.st.now c.args.ss.now c.args.sl.now) c.args.dst c.args.dv.now (table c.args.dt.now c.args.ds.now c.args.dl.now)
-        (run_params c.args.x c.args.y c.args.z c.args.«data».now []) (length c.args.out.now) c.requires in
+    (run_params c.args.x c.args.y c.args.z c.args.«data».now []) (length c.args.out.now) c.requires in
     omega (arith, two_fit c.args.out.now t c.put_address-a.ensures c.put_address.ensures)
 
 pub slice_bounds-put_run-count : goal.slice_bounds-put_run-count
 slice_bounds-put_run-count c =
     let t = parted c.args.src c.args.sv.now (table c.args.st.now c.args.ss.now c.args.sl.now) c.args.dst c.args.dv.now (table c.args.dt.now c.args.ds.now c.args.dl.now)
-        (run_params c.args.x c.args.y c.args.z c.args.«data».now []) (length c.args.out.now) c.requires in
+    (run_params c.args.x c.args.y c.args.z c.args.«data».now []) (length c.args.out.now) c.requires in
     omega (arith, two_reach c.args.out.now t c.put_address-a.ensures c.put_address.ensures)
 
 pub slice_bounds-put_run-start : goal.slice_bounds-put_run-start
 slice_bounds-put_run-start c =
     let t = parted c.args.src c.args.sv.now (table c.args.st.now c.args.ss.now c.args.sl.now) c.args.dst c.args.dv.now (table c.args.dt.now c.args.ds.now c.args.dl.now)
-        (run_params c.args.x c.args.y c.args.z c.args.«data».now []) (length c.args.out.now) c.requires in
+    (run_params c.args.x c.args.y c.args.z c.args.«data».now []) (length c.args.out.now) c.requires in
     omega (arith, two_reach c.args.out.now t c.put_address-a.ensures c.put_address.ensures)
 
 pub put_run-requires : goal.put_run-requires
 put_run-requires c =
     let t = parted c.args.src c.args.sv.now (table c.args.st.now c.args.ss.now c.args.sl.now) c.args.dst c.args.dv.now (table c.args.dt.now c.args.ds.now c.args.dl.now)
-        (run_params c.args.x c.args.y c.args.z c.args.«data».now []) (length c.args.out.now) c.requires in
+    (run_params c.args.x c.args.y c.args.z c.args.«data».now []) (length c.args.out.now) c.requires in
     three_asked c.args.out.now t c.put_address-a.ensures c.put_address.ensures
 
 pub overflow_add-result : goal.overflow_add-result
 overflow_add-result c =
     let t = parted c.args.src c.args.sv.now (table c.args.st.now c.args.ss.now c.args.sl.now) c.args.dst c.args.dv.now (table c.args.dt.now c.args.ds.now c.args.dl.now)
-        (run_params c.args.x c.args.y c.args.z c.args.«data».now []) (length c.args.out.now) c.requires in
+    (run_params c.args.x c.args.y c.args.z c.args.«data».now []) (length c.args.out.now) c.requires in
     omega (arith, three_fit c.args.out.now t c.put_address-a.ensures c.put_address.ensures c.put_run.ensures)
 
 pub returns : goal.returns
 returns c =
     let t = parted c.args.src c.args.sv.now (table c.args.st.now c.args.ss.now c.args.sl.now) c.args.dst c.args.dv.now (table c.args.dt.now c.args.ds.now c.args.dl.now)
-        (run_params c.args.x c.args.y c.args.z c.args.«data».now []) (length c.args.out.now) c.requires in
+    (run_params c.args.x c.args.y c.args.z c.args.«data».now []) (length c.args.out.now) c.requires in
     three_put c.args.out.now t c.put_address-a.ensures c.put_address.ensures c.put_run.ensures

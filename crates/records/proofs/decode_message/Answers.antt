@@ -1,5 +1,5 @@
 -- The plan says how many rows are stored, and those rows are the places of the message.
-use Rattle.std.proofs.Common.{◌≡◌, ◌≤◌, ◌∙◌, sym, ap, subst, List, length}
+use Rattle.std.proofs.Common.{◌≤◌, ◌∙◌, sym, ap, subst, List, length}
 use Rattle.parameter.specs.declared.Place.{Place}
 use Rattle.message.specs.declared.SuaMessage.{SuaMessage}
 use Rattle.message.specs.Listing.{message_read_of}

@@ -1,5 +1,5 @@
 -- The plan says how many rows are stored, and those rows are the places that were found.
-use Rattle.std.proofs.Common.{◌≡◌, ◌≤◌, ◌∙◌, sym, ap, subst, ℕ, List, length}
+use Rattle.std.proofs.Common.{◌≤◌, ◌∙◌, sym, ap, subst, ℕ, List, length}
 use Rattle.bcd.specs.Outcome.{bounded}
 use Rattle.bcd.specs.Answers.{counted_of}
 use Rattle.parameter.specs.declared.Place.{Place}

@@ -1,5 +1,5 @@
 -- The rows stored so far, and those still to store, are the rows that the definition stores.
-use Rattle.std.proofs.Common.{◌-◌, ◌≡◌, ◌≤◌, length}
+use Rattle.std.proofs.Common.{◌-◌, ◌≡◌, ◌≤◌}
 use Rattle.records.specs.Steps.Storing.{stored}
 use Rattle.records.proofs.store_rows.Given as goal
 

@@ -1,10 +1,7 @@
 -- `settle::main` is safe and ends: the line lies in its buffer.
-use Prim.Native.Nat.{◌≤◌}
 use mathlib.Core.Path.{sym}
-use lib.ListN.{length}
 use lib.Seq.{length-take-le}
 use Rattle.flat.proofs.Program.{printed_fits}
-use borrow.Author.Rules.{rules}
 use Rattle.settle.proofs.main.Goals as goal
 
 pub slice_bounds-out-end : goal.slice_bounds-out-end

@@ -6,7 +6,6 @@ use mathlib.Core.Logic.{inl, inr}
 use mathlib.Core.List.{List}
 use native.Mathlib.Omega.{arith}
 use lib.ListN.{length, get_or}
-use borrow.Author.Rules.{rules}
 use Rattle.bcd.specs.Outcome.{accepted}
 use Rattle.bcd.proofs.Outcomes.{octets-of}
 use Rattle.tally.specs.declared.place.Gain.{Gain}

@@ -9,7 +9,6 @@ use Rattle.address.specs.Steps.Plan.{Read}
 use Rattle.address.proofs.Interpreted.{interpreted-read, interpreted_refused}
 use Rattle.bcd.proofs.Outcomes.{octets-of}
 use Rattle.flat.proofs.Accounting.{parts_small, account-read, account_refused, tried_refused, tried_done}
-use borrow.Author.Rules.{rules}
 use Rattle.flat.proofs.account.address.Goals as goal
 
 pub fields-requires : goal.fields-requires

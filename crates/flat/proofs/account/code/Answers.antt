@@ -1,10 +1,8 @@
 -- `flat::account::code` meets its contract.
-use Prim.Native.Nat.{◌-◌}
 use native.Mathlib.Omega.{arith}
 use Rattle.address.proofs.Keeping.{place_of}
 use Rattle.flat.proofs.Emission.{emitted_more}
 use Rattle.flat.proofs.Describing.{code-there, code_none, four-value}
-use borrow.Author.Rules.{rules}
 use borrow.Author.Tests.{lt-ltb, le-ltb}
 use Rattle.flat.proofs.account.code.Goals as goal
 

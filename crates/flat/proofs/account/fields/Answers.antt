@@ -1,10 +1,8 @@
 -- `flat::account::fields` meets its contract.
-use Prim.Native.Nat.{◌-◌}
 use native.Mathlib.Omega.{arith}
 use Rattle.address.proofs.Planning.{sound}
 use Rattle.flat.proofs.Emission.{emitted_more}
 use Rattle.flat.proofs.Accounting.{title_small, code_small_lem, sub_small, parts-stored}
-use borrow.Author.Rules.{rules}
 use Rattle.flat.proofs.account.fields.Goals as goal
 
 pub title-d-requires : goal.title-d-requires

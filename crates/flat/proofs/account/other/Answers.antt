@@ -1,9 +1,7 @@
 -- `flat::account::other` meets its contract.
-use Prim.Native.Nat.{◌-◌}
 use mathlib.Core.Path.{sym, ◌∙◌}
 use Rattle.flat.proofs.Emission.{emitted_none}
 use Rattle.flat.proofs.Describing.{other_there, other_none}
-use borrow.Author.Rules.{rules}
 use Rattle.flat.proofs.account.other.Goals as goal
 
 pub returns-then-is_other : goal.returns-then-is_other

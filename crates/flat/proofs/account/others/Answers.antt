@@ -1,11 +1,9 @@
 -- `flat::account::others` meets its contract: there is nothing to store, or nothing but the number, or the walk stores all.
-use Prim.Native.Nat.{◌≤◌}
 use native.Mathlib.Omega.{arith}
 use Rattle.address.proofs.Others.{count_small}
 use Rattle.flat.specs.Steps.Emitting.{others_fields}
 use Rattle.flat.proofs.Emission.{emitted_beyond}
 use Rattle.flat.proofs.Accounting.{others-length, others_none}
-use borrow.Author.Rules.{rules}
 use Rattle.flat.proofs.account.others.Goals as goal
 
 pub overflow_mul-result : goal.overflow_mul-result

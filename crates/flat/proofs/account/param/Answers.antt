@@ -1,9 +1,8 @@
 -- `flat::account::param` meets its contract.
-use Prim.Native.Nat.{ℕ, ◌-◌, ◌≤◌}
+use Prim.Native.Nat.{ℕ, ◌≤◌}
 use mathlib.Core.Path.{◌≡◌, sym, ap, ◌∙◌, subst}
 use mathlib.Core.List.{List}
 use native.Mathlib.Omega.{arith}
-use lib.ListN.{length}
 use Rattle.bcd.specs.declared.error.Counted.{Counted}
 use Rattle.bcd.specs.Digits.{built_in}
 use Rattle.bcd.specs.Answers.{counted_of}
@@ -12,7 +11,6 @@ use Rattle.form.specs.Steps.Passes.{sum_of}
 use Rattle.flat.specs.Account.{address_account}
 use Rattle.flat.specs.Steps.Emitting.{Tried}
 use Rattle.flat.proofs.Accounting.{further_refused, further_raw, further_address}
-use borrow.Author.Rules.{rules}
 use Rattle.flat.proofs.account.param.Goals as goal
 
 pub put_place-behind-requires : goal.put_place-behind-requires

@@ -1,12 +1,8 @@
 -- `flat::account::put_digits` meets its contract: the loop has stored the first i digits.
-use Prim.Native.Nat.{ℕ, ◌+◌, ◌-◌, ◌≤◌}
-use mathlib.Core.Path.{◌≡◌, subst}
-use native.Mathlib.Omega.{arith}
+use Prim.Native.Nat.{◌+◌, ◌-◌, ◌≤◌}
+use mathlib.Core.Path.{◌≡◌}
 use Rattle.bcd.specs.Digits.{built_in, digits_in}
-use Rattle.flat.proofs.Describing.{digits_none, digits_next}
-use Rattle.flat.proofs.Emission.{emitted_same}
 use Rattle.flat.specs.Steps.Emitting.{Emitted}
-use borrow.Author.Rules.{rules}
 use Rattle.flat.proofs.account.put_digits.Given as goal
 
 abbrev pub invariant-loop-i : goal.invariant-loop-i

@@ -6,7 +6,6 @@ use lib.ListN.{length, take, drop, length-drop}
 use Rattle.address.proofs.Planning.{whole_part}
 use Rattle.flat.proofs.Emission.{emitted_more}
 use Rattle.flat.proofs.Describing.{title_past, title_stored}
-use borrow.Author.Rules.{rules}
 use Rattle.flat.proofs.account.put_title.Goals as goal
 
 pub overflow_cast-count : goal.overflow_cast-count

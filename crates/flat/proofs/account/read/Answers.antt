@@ -1,5 +1,5 @@
 -- `flat::account::read` meets its contract: the account is measured, then written.
-use Prim.Native.Nat.{ℕ, ◌+◌, ◌-◌, ◌≤◌}
+use Prim.Native.Nat.{ℕ, ◌+◌, ◌≤◌}
 use mathlib.Core.Path.{◌≡◌, sym, ap, ◌∙◌, subst}
 use mathlib.Core.List.{List, [], ◌∷◌, ◌++◌}
 use native.Mathlib.Omega.{arith}
@@ -14,7 +14,6 @@ use Rattle.message.proofs.Listing.{header_within}
 use Rattle.address.proofs.Planning.{mapped_refused}
 use Rattle.flat.specs.Steps.Emitting.{accounts}
 use Rattle.flat.proofs.AccountDone.{account_unread, headed, headed-length, Known, account_stopped, account-known, account_begun}
-use borrow.Author.Rules.{rules}
 use Rattle.flat.proofs.account.read.Goals as goal
 
 pub params-first-requires : goal.params-first-requires

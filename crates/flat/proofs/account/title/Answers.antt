@@ -1,9 +1,8 @@
 -- `flat::account::title` meets its contract.
 use Prim.Native.Nat.{◌+◌, ◌-◌}
 use native.Mathlib.Omega.{arith}
-use lib.ListN.{length, drop, length-take, length-drop}
+use lib.ListN.{drop, length-take, length-drop}
 use Rattle.flat.proofs.Describing.{title_there, title_none}
-use borrow.Author.Rules.{rules}
 use borrow.Author.Tests.{lt-ltb, le-ltb}
 use Rattle.flat.proofs.account.title.Goals as goal
 

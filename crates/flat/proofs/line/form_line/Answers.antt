@@ -6,7 +6,6 @@ use lib.ListN.{length}
 use Rattle.flat.specs.Line.{form_text}
 use Rattle.flat.proofs.Lines.{decimal-short, words-length}
 use Rattle.flat.proofs.Printing.{form_length, form_line_large, form_line_short, form_line_done}
-use borrow.Author.Rules.{rules}
 use Rattle.flat.proofs.line.form_line.Goals as goal
 
 pub returns-then-given-gt1048576 : goal.returns-then-given-gt1048576

@@ -1,18 +1,16 @@
 -- `flat::line::print` meets its contract: too many octets, a refusal, or a form.
 use Prim.Native.Nat.{ℕ, ◌≤◌, ◌<◌}
 use mathlib.Core.Path.{◌≡◌, sym, ap, ◌∙◌}
-use mathlib.Core.List.{List}
 use native.Mathlib.Omega.{arith}
 use lib.ListN.{length, get_or, take}
 use lib.Seq.{length-take-le}
 use Rattle.bcd.specs.declared.error.Counted.{Counted}
-use Rattle.bcd.specs.Outcome.{Outcome, accepted, Octets, deliver}
+use Rattle.bcd.specs.Outcome.{Outcome, Octets, deliver}
 use Rattle.bcd.specs.Answers.{counted_of}
 use Rattle.bcd.specs.Digits.{built_in}
 use Rattle.bcd.proofs.Outcomes.{octets-of, all_take}
 use Rattle.form.specs.Form.{settled}
 use Rattle.flat.proofs.Program.{written, line_large, line_refused, line_formed}
-use borrow.Author.Rules.{rules}
 use Rattle.flat.proofs.line.print.Goals as goal
 
 pub returns-then-n-gt65536 : goal.returns-then-n-gt65536

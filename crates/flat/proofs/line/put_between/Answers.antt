@@ -8,7 +8,6 @@ use borrow.Rule.Slice.PartMut.{put_mid}
 use Rattle.bcd.proofs.Writing.{Begun}
 use Rattle.flat.specs.Line.{decimal, between}
 use Rattle.flat.proofs.Printing.{between-length, after_head, after-number, after_tail}
-use borrow.Author.Rules.{rules}
 use Rattle.flat.proofs.line.put_between.Goals as goal
 
 pub copy-first-requires : goal.copy-first-requires

@@ -8,7 +8,6 @@ use borrow.Rule.Slice.PartMut.{put_mid}
 use Rattle.bcd.proofs.Writing.{Begun}
 use Rattle.flat.specs.Line.{words, form_text}
 use Rattle.flat.proofs.Printing.{form_head, form_head_length, form_begun, after-words, after_end}
-use borrow.Author.Rules.{rules}
 use Rattle.flat.proofs.line.put_form.Goals as goal
 
 pub put_between-first-requires : goal.put_between-first-requires

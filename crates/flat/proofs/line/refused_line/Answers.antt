@@ -6,7 +6,6 @@ use lib.ListN.{length}
 use Rattle.flat.specs.Line.{refused_line}
 use Rattle.flat.proofs.Lines.{decimal-short}
 use Rattle.flat.proofs.Printing.{refused_length, refused_line_short, refused_line_done}
-use borrow.Author.Rules.{rules}
 use Rattle.flat.proofs.line.refused_line.Goals as goal
 
 pub overflow_add-n : goal.overflow_add-n

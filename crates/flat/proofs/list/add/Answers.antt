@@ -6,7 +6,6 @@ use Rattle.bcd.specs.declared.error.Counted.TheVariants as C
 use Rattle.bcd.specs.Outcome.{Outcome, accepted, after, mapped, fit64}
 use Rattle.bcd.specs.Answers.{counted_of}
 use Rattle.parameter.specs.Parameter.{wire_length}
-use borrow.Author.Rules.{rules}
 use Rattle.flat.proofs.list.add.Goals as goal
 
 -- on from a sum that is known

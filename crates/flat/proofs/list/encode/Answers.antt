@@ -4,7 +4,6 @@ use Rattle.bcd.specs.Outcome.{deliver}
 use Rattle.bcd.proofs.Outcomes.{deliver_refused}
 use Rattle.message.specs.Types.{type_read_of}
 use Rattle.flat.proofs.FlatList.{flat_untyped, flat_typed}
-use borrow.Author.Rules.{rules}
 use Rattle.flat.proofs.list.encode.Goals as goal
 
 pub returns-in-Refused : goal.returns-in-Refused

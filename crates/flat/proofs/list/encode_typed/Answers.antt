@@ -4,14 +4,13 @@ use mathlib.Core.List.{List}
 use Prim.Native.Nat.{ℕ, ◌-◌}
 use native.Mathlib.Omega.{arith}
 use lib.ListN.{length, drop, length-take, length-drop}
-use Rattle.bcd.specs.Outcome.{Outcome, accepted, after, mapped, each, fit64}
+use Rattle.bcd.specs.Outcome.{accepted, after, mapped, each, fit64}
 use Rattle.bcd.specs.Answers.{counted_of}
 use Rattle.bcd.proofs.Outcomes.{deliver_too_long}
-use Rattle.parameter.specs.Parameter.{Param, encode_param}
+use Rattle.parameter.specs.Parameter.{encode_param}
 use Rattle.parameter.proofs.Running.{sum_exact}
 use Rattle.message.proofs.Listing.{written-framed, message_large, message-known, message-counted, message_refused, message-done}
 use Rattle.flat.specs.Flat.{flat_list}
-use borrow.Author.Rules.{rules}
 use Rattle.flat.proofs.list.encode_typed.Goals as goal
 
 pub returns-then-total-gt1048576 : goal.returns-then-total-gt1048576

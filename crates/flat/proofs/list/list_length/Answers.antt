@@ -1,14 +1,10 @@
 -- `flat::list::list_length` meets its contract: the loop has measured the first n parameters.
-use Prim.Native.Nat.{◌-◌}
 use mathlib.Core.Path.{◌≡◌, sym, ap, ◌∙◌}
-use lib.ListN.{length}
-use Rattle.bcd.specs.Answers.{counted_of}
 use Rattle.parameter.specs.declared.Step.{Step}
 use Rattle.parameter.specs.Answers.{step_of}
 use Rattle.flat.specs.Flat.{flat_step}
-use borrow.Author.Rules.{rules}
 use Rattle.flat.proofs.FlatList.{walking_out, walking_end}
-use Rattle.flat.proofs.Summing.{Summed, summed_start, summed_more, summed_all, summed_refused}
+use Rattle.flat.proofs.Summing.{summed_start, summed_more, summed_all, summed_refused}
 use Rattle.flat.proofs.list.list_length.Goals as goal
 
 pub loop-n-init : goal.loop-n-init

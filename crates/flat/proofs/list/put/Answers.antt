@@ -10,7 +10,6 @@ use Rattle.parameter.specs.Walk.{valued}
 use Rattle.parameter.proofs.Encoding.{encode_within}
 use Rattle.parameter.proofs.RoundTrip.{octets-length}
 use Rattle.form.proofs.Passes.{valued_part, valued-length}
-use borrow.Author.Rules.{rules}
 use Rattle.flat.proofs.list.put.Goals as goal
 
 pub returns-in-Count : goal.returns-in-Count

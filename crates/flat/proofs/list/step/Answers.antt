@@ -3,7 +3,6 @@ use mathlib.Core.Path.{sym}
 use native.Mathlib.Omega.{arith}
 use Rattle.parameter.specs.Parameter.{two_at}
 use Rattle.flat.proofs.FlatList.{four-read, flat_end, flat_short, flat_beyond, flat_found}
-use borrow.Author.Rules.{rules}
 use Rattle.flat.proofs.list.step.Goals as goal
 
 pub returns-then-n-at : goal.returns-then-n-at

@@ -6,9 +6,8 @@ use lib.ListN.{length, drop, length-take, length-drop}
 use Rattle.parameter.specs.declared.Step.{Step}
 use Rattle.parameter.specs.Answers.{step_of}
 use Rattle.flat.specs.Flat.{flat_step}
-use borrow.Author.Rules.{rules}
 use Rattle.flat.proofs.FlatList.{walking_out, walking_end}
-use Rattle.flat.proofs.FlatWriting.{Known, known, Written, written_start, written_turn, written-size, written_more, written_never, written_all}
+use Rattle.flat.proofs.FlatWriting.{known, written_start, written_turn, written-size, written_more, written_never, written_all}
 use Rattle.flat.proofs.list.write_list.Goals as goal
 
 pub loop-n-init : goal.loop-n-init

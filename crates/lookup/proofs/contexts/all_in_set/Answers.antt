@@ -1,11 +1,10 @@
 -- `lookup::contexts::all_in_set` meets its contract: the loop has found in the set the contexts before a position.
-use Prim.Native.Nat.{ℕ, ◌+◌, ◌-◌, ◌%◌, ◌≤◌}
+use Prim.Native.Nat.{ℕ, ◌+◌}
 use mathlib.Core.Path.{◌≡◌, refl, sym, ap, ◌∙◌}
 use mathlib.Core.Bool.{Bool, true, false, ◌&&◌}
 use native.Mathlib.Omega.{arith}
 use lib.ListN.{drop}
 use borrow.Author.Rules.{rules}
-use borrow.Author.Tests.{not-true, not-false}
 use Rattle.bcd.specs.Outcome.{among}
 use Rattle.lookup.proofs.Membership.{each_in, all_next, all_end, value_unfinished, value_missing, value-whole}
 use Rattle.lookup.proofs.contexts.all_in_set.Goals as goal

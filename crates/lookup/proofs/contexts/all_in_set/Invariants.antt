@@ -1,13 +1,8 @@
 -- `lookup::contexts::all_in_set` meets its contract: the loop has found in the set the contexts before a position.
-use Prim.Native.Nat.{ℕ, ◌+◌, ◌-◌, ◌%◌, ◌≤◌}
-use mathlib.Core.Path.{◌≡◌, refl, sym, ap, ◌∙◌}
-use mathlib.Core.Bool.{Bool, true, false, ◌&&◌}
-use native.Mathlib.Omega.{arith}
+use Prim.Native.Nat.{◌-◌, ◌%◌, ◌≤◌}
+use mathlib.Core.Path.{◌≡◌}
 use lib.ListN.{drop}
-use borrow.Author.Rules.{rules}
-use borrow.Author.Tests.{not-true, not-false}
-use Rattle.bcd.specs.Outcome.{among}
-use Rattle.lookup.proofs.Membership.{each_in, all_next, all_end, value_unfinished, value_missing, value-whole}
+use Rattle.lookup.proofs.Membership.{each_in}
 use Rattle.lookup.proofs.contexts.all_in_set.Given as goal
 
 abbrev pub invariant-loop-at : goal.invariant-loop-at

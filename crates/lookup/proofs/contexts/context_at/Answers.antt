@@ -1,6 +1,5 @@
 -- `lookup::contexts::context_at` meets its contract.
 use native.Mathlib.Omega.{arith}
-use borrow.Author.Rules.{rules}
 use Rattle.lookup.proofs.Membership.{four_at_lem}
 use Rattle.lookup.proofs.contexts.context_at.Goals as goal
 

@@ -4,11 +4,9 @@ use mathlib.Core.Path.{◌≡◌, sym, ap, ◌∙◌}
 use mathlib.Core.Bool.{Bool, true, false}
 use native.Mathlib.Omega.{arith}
 use lib.ListN.{length}
-use borrow.Author.Rules.{rules}
 use Rattle.bcd.specs.Outcome.{accepted, mapped}
-use Rattle.parameter.specs.declared.Place.{Place}
 use Rattle.parameter.specs.declared.table.Found.{Found}
-use Rattle.parameter.specs.Table.{Table, table, find_param}
+use Rattle.parameter.specs.Table.{table, find_param}
 use Rattle.parameter.specs.Answers.{found_of}
 use Rattle.lookup.specs.Contexts.{all_in_set, all_in_set_at, contexts_in}
 use Rattle.lookup.proofs.Accessing.{find_inside, part_value}

@@ -1,13 +1,8 @@
 -- `lookup::contexts::in_set` meets its contract: the loop has looked at the first i numbers.
-use borrow.Author.Rules.{rules}
 use Prim.Native.Nat.{◌-◌, ◌≤◌}
-use mathlib.Core.Path.{◌≡◌, refl, sym, ap, ◌∙◌}
-use mathlib.Core.Bool.{◌||◌}
-use lib.Dec.{eqb}
-use lib.ListN.{length, get_or, take}
-use lib.Seq.{take_all}
+use mathlib.Core.Path.{◌≡◌}
+use lib.ListN.{length, take}
 use Rattle.bcd.specs.Outcome.{among}
-use Rattle.bcd.proofs.Tests.{among_next}
 use Rattle.lookup.proofs.contexts.in_set.Given as goal
 
 abbrev pub invariant-loop-i : goal.invariant-loop-i

@@ -1,14 +1,6 @@
 -- `lookup::pass::keep_first` meets its contract: the loop has looked at the records from a row on.
-use Prim.Native.Nat.{◌-◌, ◌≤◌}
-use mathlib.Core.Path.{◌≡◌, sym}
-use native.Mathlib.Omega.{arith}
-use lib.ListN.{set}
-use lib.Seq.{set_out}
-use borrow.Author.Rules.{rules}
-use Rattle.parameter.specs.Table.{Table}
-use Rattle.parameter.proofs.Filling.{small_tags, small_starts, small_lengths}
-use Rattle.parameter.proofs.Records.{records_few}
-use Rattle.lookup.proofs.Passing.{Passed, passed_length, keeps_outside, pass_start, pass_outside, pass_next, pass_all}
+use Prim.Native.Nat.{◌≤◌}
+use Rattle.lookup.proofs.Passing.{Passed}
 use Rattle.lookup.proofs.pass.keep_first.Given as goal
 
 abbrev pub invariant-loop-row : goal.invariant-loop-row

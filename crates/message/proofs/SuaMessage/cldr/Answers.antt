@@ -6,7 +6,6 @@ use native.Mathlib.Omega.{arith}
 use Rattle.bcd.specs.Outcome.{Outcome, deliver}
 use Rattle.parameter.specs.Table.{table}
 use Rattle.message.proofs.Addressing.{cldr-parts}
-use borrow.Author.Rules.{rules}
 use Rattle.message.proofs.SuaMessage.cldr.Goals as goal
 
 pub returns : goal.returns

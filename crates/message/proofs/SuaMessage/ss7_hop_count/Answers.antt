@@ -2,7 +2,6 @@
 use mathlib.Core.Path.{ap, ◌∙◌}
 use mathlib.Core.Option.{Option, map}
 use Prim.Native.Nat.{ℕ}
-use borrow.Author.Rules.{rules}
 use Rattle.bcd.specs.Outcome.{Outcome, mapped}
 use Rattle.bcd.proofs.Outcomes.{octets-of}
 use Rattle.parameter.specs.Table.{table}

@@ -60,18 +60,20 @@ module _ (src : SuaAddress) (sv : List ℕ) (st : Table) (dst : SuaAddress) (dv 
 pub overflow_add-total : goal.overflow_add-total
 overflow_add-total c =
     let a = c.args in
-    omega
-    (arith,
-    small a.src a.sv.now (table a.st.now a.ss.now a.sl.now) a.dst a.dv.now (table a.dt.now a.ds.now a.dl.now) a.x a.y a.z a.«data».now
-    c.in-Count.run' c.in-Count.ensures)
+    omega (
+      arith,
+      small a.src a.sv.now (table a.st.now a.ss.now a.sl.now) a.dst a.dv.now (table a.dt.now a.ds.now a.dl.now) a.x a.y a.z a.«data».now
+          c.in-Count.run' c.in-Count.ensures,
+    )
 
 pub overflow_cast-total : goal.overflow_cast-total
 overflow_cast-total c =
     let a = c.args in
-    omega
-    (arith,
-    small a.src a.sv.now (table a.st.now a.ss.now a.sl.now) a.dst a.dv.now (table a.dt.now a.ds.now a.dl.now) a.x a.y a.z a.«data».now
-    c.in-Count.run' c.in-Count.ensures)
+    omega (
+      arith,
+      small a.src a.sv.now (table a.st.now a.ss.now a.sl.now) a.dst a.dv.now (table a.dt.now a.ds.now a.dl.now) a.x a.y a.z a.«data».now
+          c.in-Count.run' c.in-Count.ensures,
+    )
 
 pub returns-then-out-total : goal.returns-then-out-total
 returns-then-out-total c =

@@ -1,7 +1,6 @@
 -- `pieces::point_codes::code_at` meets its contract.
 use Prim.Native.Nat.{◌+◌, ◌*◌}
 use native.Mathlib.Omega.{arith}
-use borrow.Author.Rules.{rules}
 use Rattle.pieces.proofs.PointCodes.{codes_in_at}
 use Rattle.pieces.proofs.point_codes.code_at.Goals as goal
 

@@ -1,7 +1,7 @@
 -- `pieces::point_codes::pack_affected_point_codes` meets its contract: the loop has written the first i codes.
-use Prim.Native.Nat.{◌*◌, ◌≤◌, ◌-◌}
+use Prim.Native.Nat.{◌*◌, ◌-◌}
 use native.Mathlib.Omega.{arith}
-use lib.ListN.{length, take}
+use lib.ListN.{length}
 use lib.Seq.{take_all}
 use borrow.Author.Rules.{rules}
 use Rattle.bcd.proofs.Outcomes.{deliver_refused, deliver-short}

@@ -1,14 +1,8 @@
 -- `pieces::point_codes::pack_affected_point_codes` meets its contract: the loop has written the first i codes.
-use Prim.Native.Nat.{◌*◌, ◌≤◌, ◌-◌}
-use native.Mathlib.Omega.{arith}
-use lib.ListN.{length, take}
-use lib.Seq.{take_all}
-use borrow.Author.Rules.{rules}
-use Rattle.bcd.proofs.Outcomes.{deliver_refused, deliver-short}
+use Prim.Native.Nat.{◌≤◌, ◌-◌}
+use lib.ListN.{take}
 use Rattle.bcd.proofs.Writing.{Begun}
-use Rattle.bcd.proofs.Writing.{delivered as begun-delivered}
 use Rattle.pieces.specs.PointCodes.{codes_octets}
-use Rattle.pieces.proofs.PointCodes.{codes-length, pack_many, pack_few, codes_next}
 use Rattle.pieces.proofs.point_codes.pack_affected_point_codes.Given as goal
 
 abbrev pub invariant-loop-i : goal.invariant-loop-i

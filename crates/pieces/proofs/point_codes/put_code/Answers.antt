@@ -1,7 +1,6 @@
 -- `pieces::point_codes::put_code` meets its contract.
 use native.Mathlib.Omega.{arith}
 use lib.ListN.{length-set}
-use borrow.Author.Rules.{rules}
 use Rattle.pieces.proofs.PointCodes.{code-stored}
 use Rattle.pieces.proofs.point_codes.put_code.Goals as goal
 

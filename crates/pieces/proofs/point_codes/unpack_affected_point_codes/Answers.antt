@@ -1,5 +1,4 @@
 -- `pieces::point_codes::unpack_affected_point_codes` meets its contract.
-use borrow.Author.Rules.{rules}
 use Rattle.pieces.proofs.PointCodes.{store_refused, unpack_beyond, unpack_within}
 use Rattle.pieces.proofs.point_codes.unpack_affected_point_codes.Goals as goal
 

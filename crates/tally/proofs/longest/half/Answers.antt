@@ -1,6 +1,5 @@
 -- `tally::longest::half` meets its contract, at an even and at an odd place.
 use Rattle.bcd.proofs.Reading.{half_even, half_odd}
-use borrow.Author.Rules.{rules}
 use Rattle.tally.proofs.longest.half.Goals as goal
 
 pub returns-then-i-eq0 : goal.returns-then-i-eq0

@@ -1,9 +1,7 @@
 -- `tally::longest::longest` meets its contract: the loop has found the longest of the first i members.
-use Prim.Native.Nat.{◌≤◌, ◌-◌}
 use native.Mathlib.Omega.{arith}
 use borrow.Author.Tests.{leb-true}
-use lib.ListN.{length}
-use Rattle.tally.proofs.Finding.{Found, found_none, found_better, found_other, found_end}
+use Rattle.tally.proofs.Finding.{found_none, found_better, found_other, found_end}
 use borrow.Author.Rules.{rules}
 use Rattle.tally.proofs.longest.longest.Goals as goal
 use Rattle.tally.proofs.longest.longest.Goals.{then-best-k+then-k-n+then-first-k, else-best-k, else-best-k-via-then-best-k+then-k-n+else-first-k, else-best-k-via-then-best-k+else-k-n, else-best-k-via-else-best-k}
@@ -31,15 +29,15 @@ loop-i-preserved c = let turn = found_better c.args.lengths.now c.args.held.now 
     let stay = found_other c.args.lengths.now c.args.held.now c.args.first.now c.args.n c.loop-i.best c.loop-i.row c.loop-i.i c.loop-i-test.true c.loop-i.invariant.1 c.if-best-k.best c.if-best-k.row in (
       search rules,
       elim c.if-best-k.branch [
-        then-best-k+then-k-n+then-first-k w ↦ turn c.if-best-k.best c.if-best-k.row w.if-best-k.true w.if-k-n.true w.if-first-k.true w.best-is w.row-is
-      | else-best-k w ↦ stay
-          (λ more short same.
-          elim w.else-best-k.branch [
-            else-best-k-via-then-best-k+then-k-n+else-first-k u ↦ u.if-first-k.false same
-          | else-best-k-via-then-best-k+else-k-n u ↦ omega arith
-          | else-best-k-via-else-best-k u ↦ omega arith
-          ])
-          w.best-is w.row-is
+        | then-best-k+then-k-n+then-first-k w ↦ turn c.if-best-k.best c.if-best-k.row w.if-best-k.true w.if-k-n.true w.if-first-k.true w.best-is w.row-is
+        | else-best-k w ↦ stay
+            (λ more short same.
+            elim w.else-best-k.branch [
+              | else-best-k-via-then-best-k+then-k-n+else-first-k u ↦ u.if-first-k.false same
+              | else-best-k-via-then-best-k+else-k-n u ↦ omega arith
+              | else-best-k-via-else-best-k u ↦ omega arith
+            ])
+            w.best-is w.row-is
       ],
     )
 

@@ -1,12 +1,10 @@
 -- `tally::longest::write_starts` meets its contract: the loop has stored the numbers of under i digits.
-use Prim.Native.Nat.{◌≤◌, ◌-◌}
 use mathlib.Core.Path.{sym, ◌∙◌}
 use native.Mathlib.Omega.{arith}
-use lib.ListN.{take}
 use lib.Seq.{get_or-take}
 use lib.Dec.{lit<}
 use Rattle.bcd.specs.Digits.{halves}
-use Rattle.tally.proofs.Starts.{half_small, first_halves, Stored, stored_none, stored_fits, stored_next, stored-all}
+use Rattle.tally.proofs.Starts.{half_small, first_halves, stored_none, stored_fits, stored_next, stored-all}
 use borrow.Author.Rules.{rules}
 use Rattle.tally.proofs.longest.write_starts.Goals as goal
 

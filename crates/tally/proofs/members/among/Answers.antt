@@ -1,10 +1,9 @@
 -- `tally::members::among` meets its contract: the loop has looked at the first i numbers.
 use borrow.Author.Rules.{rules}
-use Prim.Native.Nat.{◌-◌, ◌≤◌}
-use mathlib.Core.Path.{◌≡◌, refl, sym, ap, ◌∙◌}
+use mathlib.Core.Path.{refl, sym, ap, ◌∙◌}
 use mathlib.Core.Bool.{◌||◌}
 use lib.Dec.{eqb}
-use lib.ListN.{length, get_or, take}
+use lib.ListN.{get_or}
 use lib.Seq.{take_all}
 use Rattle.bcd.specs.Outcome.{among}
 use Rattle.bcd.proofs.Tests.{among_next}

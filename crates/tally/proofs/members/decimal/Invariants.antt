@@ -1,16 +1,10 @@
 -- `tally::members::decimal` meets its contract: the least and the largest of the first i octets tell of them all.
-use borrow.Author.Rules.{rules}
-use Prim.Native.Nat.{◌+◌, ◌-◌, ◌≤◌}
-use mathlib.Core.Path.{◌≡◌, refl, sym, ap, ◌∙◌}
-use mathlib.Core.Logic.{⊎_elim}
+use Prim.Native.Nat.{◌-◌, ◌≤◌}
+use mathlib.Core.Path.{◌≡◌}
 use mathlib.Core.Bool.{◌&&◌}
-use native.Mathlib.Omega.{arith}
 use lib.Dec.{leb}
-use lib.ListN.{length, get_or, take}
-use lib.Seq.{take_all}
-use borrow.Author.Tests.{le-leb, lt-leb}
+use lib.ListN.{length, take}
 use Rattle.tally.specs.Members.{between, every}
-use Rattle.tally.proofs.Lists.{ends_next, every_next}
 use Rattle.tally.proofs.members.decimal.Given as goal
 
 abbrev pub invariant-loop-i : goal.invariant-loop-i

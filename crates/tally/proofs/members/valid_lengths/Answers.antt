@@ -1,9 +1,7 @@
 -- `tally::members::valid_lengths` meets its contract: the loop has found the first i lengths good.
-use borrow.Author.Rules.{rules}
-use Prim.Native.Nat.{◌-◌}
 use native.Mathlib.Omega.{arith}
 use Rattle.tally.proofs.Lists.{between_below, between_above}
-use Rattle.tally.proofs.Loading.{Passed, passed_none, passed_next, lengths_none, lengths_many, lengths_not, lengths_all}
+use Rattle.tally.proofs.Loading.{passed_none, passed_next, lengths_none, lengths_many, lengths_not, lengths_all}
 use Rattle.tally.proofs.members.valid_lengths.Goals as goal
 
 pub returns-then-n-lt1 : goal.returns-then-n-lt1

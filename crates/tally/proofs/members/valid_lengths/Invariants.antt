@@ -1,9 +1,6 @@
 -- `tally::members::valid_lengths` meets its contract: the loop has found the first i lengths good.
-use borrow.Author.Rules.{rules}
 use Prim.Native.Nat.{◌-◌}
-use native.Mathlib.Omega.{arith}
-use Rattle.tally.proofs.Lists.{between_below, between_above}
-use Rattle.tally.proofs.Loading.{Passed, passed_none, passed_next, lengths_none, lengths_many, lengths_not, lengths_all}
+use Rattle.tally.proofs.Loading.{Passed}
 use Rattle.tally.proofs.members.valid_lengths.Given as goal
 
 abbrev pub invariant-loop-i : goal.invariant-loop-i

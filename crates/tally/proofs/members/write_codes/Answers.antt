@@ -1,11 +1,10 @@
 -- `tally::members::write_codes` meets its contract: the loop has stored the first i numbers.
-use borrow.Author.Rules.{rules}
 use Prim.Native.Nat.{◌+◌, ◌-◌}
 use native.Mathlib.Omega.{arith}
-use lib.ListN.{length, get_or, length-take}
+use lib.ListN.{get_or, length-take}
 use Rattle.tally.specs.Members.{between}
 use Rattle.tally.proofs.Lists.{every_part}
-use Rattle.tally.proofs.Loading.{Stored, stored_none, stored_next, stored-all, lengths_fit, lengths_short}
+use Rattle.tally.proofs.Loading.{stored_none, stored_next, stored-all, lengths_fit, lengths_short}
 use Rattle.tally.proofs.members.write_codes.Goals as goal
 
 pub loop-i-init : goal.loop-i-init

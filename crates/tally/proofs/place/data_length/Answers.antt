@@ -1,5 +1,4 @@
 -- `tally::place::data_length` meets its contract: the first Data is at the place that was found.
-use borrow.Author.Rules.{rules}
 use Prim.Native.Nat.{ℕ, ◌<◌}
 use mathlib.Core.Path.{◌≡◌, sym, ap, ◌∙◌}
 use native.Mathlib.Omega.{arith}

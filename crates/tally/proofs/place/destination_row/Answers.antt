@@ -1,5 +1,4 @@
 -- `tally::place::destination_row` meets its contract: the title is at the place that was found.
-use borrow.Author.Rules.{rules}
 use Prim.Native.Nat.{◌+◌, ◌≤◌}
 use mathlib.Core.Path.{◌≡◌, sym, ap, ◌∙◌}
 use mathlib.Core.Option.{none}

@@ -1,13 +1,10 @@
 -- `tally::place::last` meets its contract: the loop has walked n parameters and keeps the last with the tag.
-use borrow.Author.Rules.{rules}
-use Prim.Native.Nat.{◌-◌}
 use mathlib.Core.Path.{◌≡◌, sym, ap, ◌∙◌}
-use lib.ListN.{length}
 use Rattle.bcd.proofs.Outcomes.{bounded-within}
 use Rattle.parameter.specs.declared.Step.{Step}
 use Rattle.parameter.specs.Walk.{step_at}
 use Rattle.parameter.specs.Answers.{step_of, found_of}
-use Rattle.tally.proofs.Looking.{Keeping, keeping_start, keeping_same, keeping_other, kept_end, kept_refused, kept_out}
+use Rattle.tally.proofs.Looking.{keeping_start, keeping_same, keeping_other, kept_end, kept_refused, kept_out}
 use Rattle.tally.proofs.place.last.Goals as goal
 use Rattle.tally.proofs.place.last.Goals.{then-p-tag, else-p-tag}
 
@@ -22,8 +19,8 @@ loop-n-preserved c =
     let i = c.loop-n.invariant in
     let e = stepped _ c.in-Parameter.is in
     elim c.if-p-tag.branch [
-      then-p-tag w ↦ keeping_same i c.loop-n-test.true c.in-Parameter.p c.in-Parameter.next.at e _ (ap found_of w.found-is) w.if-p-tag.true
-    | else-p-tag w ↦ keeping_other i c.loop-n-test.true c.in-Parameter.p c.in-Parameter.next.at e _ (ap found_of w.found-is) w.if-p-tag.false
+      | then-p-tag w ↦ keeping_same i c.loop-n-test.true c.in-Parameter.p c.in-Parameter.next.at e _ (ap found_of w.found-is) w.if-p-tag.true
+      | else-p-tag w ↦ keeping_other i c.loop-n-test.true c.in-Parameter.p c.in-Parameter.next.at e _ (ap found_of w.found-is) w.if-p-tag.false
     ]
 
 pub returns-in-End : goal.returns-in-End

@@ -1,5 +1,4 @@
 -- `tally::place::row_of` meets its contract: the first destination is at the place that was found.
-use borrow.Author.Rules.{rules}
 use Prim.Native.Nat.{◌+◌, ◌≤◌}
 use mathlib.Core.Path.{◌≡◌, sym, ap, ◌∙◌}
 use mathlib.Core.Bool.{true}

@@ -1,13 +1,9 @@
 -- `tally::rows::few` meets its contract: what is left and what was counted make the limit.
 use Prim.Native.Nat.{◌+◌, ◌-◌, ◌≤◌, ◌<◌}
-use mathlib.Core.Path.{◌≡◌, sym}
-use native.Mathlib.Omega.{arith}
+use mathlib.Core.Path.{◌≡◌}
 use lib.ListN.{length, drop}
-use borrow.Author.Rules.{rules}
-use borrow.Author.Tests.{lt-ltb, le-ltb}
 use Rattle.tally.specs.Members.{sum}
 use Rattle.tally.specs.Rows.{most_messages}
-use Rattle.tally.proofs.Summing.{sum_drop, sum_none}
 use Rattle.tally.proofs.rows.few.Given as goal
 
 abbrev pub invariant-loop-i : goal.invariant-loop-i

@@ -1,14 +1,8 @@
 -- `tally::rows::proportionate` meets its contract: the rows before i keep the rule.
-use Prim.Native.Nat.{◌-◌, ◌*◌, ◌≤◌}
-use mathlib.Core.Path.{◌≡◌, refl, sym, ◌∙◌}
-use native.Mathlib.Omega.{arith}
-use lib.ListN.{length, get_or, drop}
-use borrow.Author.Rules.{rules}
-use borrow.Author.Tests.{ltb-true, lt-leb, le-leb}
-use Rattle.parameter.specs.Parameter.{most_value}
-use Rattle.tally.specs.Members.{sum}
-use Rattle.tally.specs.Rows.{most_messages, within}
-use Rattle.tally.proofs.Summing.{within-drop, within_none, below_sum}
+use Prim.Native.Nat.{◌-◌, ◌≤◌}
+use mathlib.Core.Path.{◌≡◌}
+use lib.ListN.{length, drop}
+use Rattle.tally.specs.Rows.{within}
 use Rattle.tally.proofs.rows.proportionate.Given as goal
 
 abbrev pub invariant-loop-i : goal.invariant-loop-i

@@ -1,5 +1,4 @@
 -- `tally::rows::raise` meets its contract.
-use borrow.Author.Rules.{rules}
 use Rattle.tally.proofs.Raising.{raised-set}
 use Rattle.tally.proofs.rows.raise.Goals as goal
 

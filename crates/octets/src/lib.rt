@@ -1,7 +1,7 @@
-// Octets copied into a lent buffer and looked for in a text.
+// Octets copied into a lent buffer, and looked for in a text.
 #![tactic(auto)]
 
-ghost use Rattle.std.specs.Prelude.{◌≡◌, ◌≤◌, ◌++◌, length, take, drop};
+ghost use Rattle.std.specs.Prelude.{◌≡◌, ◌≢◌, ◌≤◌, ◌<◌, ◌++◌, ℕ, length, take, drop, slice_index};
 
 // Copies octets to the front of a buffer that has room for them, and answers how many they are.
 pub fn copy(from: &[u8], out: &mut [u8]) -> usize
@@ -21,6 +21,8 @@ pub fn find(text: &[u8], from: usize, to: usize, octet: u8) -> usize
     requires inside { to ≤ length text.now }
     ensures from { from ≤ result }
     ensures to { result ≤ to }
+    ensures found { result < to → slice_index text.now result ≡ octet }
+    ensures first { (k : ℕ) → from ≤ k → k < result → slice_index text.now k ≢ octet }
 {
     for i in from..to {
         if text[i] == octet {

@@ -24,9 +24,7 @@ clear_reserved-requires c =
     let r = room in omega (arith, c.encode.auto.out)
 
 pub overflow_cast-out : goal.overflow_cast-out
-overflow_cast-out c =
-    let few : c.smaller-digits.result ≤ 255 = let k = c.type_inv.value 4 in omega (arith, c.smaller-digits.ensures) in
-    let f = few in omega arith
+overflow_cast-out c = let k = c.type_inv.value 4 in omega (arith, c.smaller-digits.ensures)
 
 pub bounds-out-8 : goal.bounds-out-8
 bounds-out-8 c =

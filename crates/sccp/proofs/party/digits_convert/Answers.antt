@@ -1,5 +1,6 @@
 -- `sccp::party::digits_convert` meets its contract.
 use Rattle.sccp.proofs.PartyTests.{odd_none, odd_many, odd_filled, odd_known, even_many, even_known, scheme_none}
+use native.Mathlib.Omega.{arith}
 use Rattle.sccp.proofs.party.digits_convert.Goals as goal
 
 pub returns-then-n-lt1 : goal.returns-then-n-lt1
@@ -9,7 +10,7 @@ pub returns-then-n-gt128 : goal.returns-then-n-gt128
 returns-then-n-gt128 c = rw c.if-scheme-eq1.true (odd_many c.args.octets.now c.if-n-lt1.false c.if-n-gt128.true)
 
 pub returns-then-octets-n-gt15 : goal.returns-then-octets-n-gt15
-returns-then-octets-n-gt15 c = rw c.if-scheme-eq1.true (odd_filled c.args.octets.now c.if-n-lt1.false c.if-n-gt128.false c.if-octets-n-gt15.true)
+returns-then-octets-n-gt15 c = rw c.if-scheme-eq1.true (odd_filled c.args.octets.now c.if-n-lt1.false c.if-n-gt128.false (omega (arith, c.if-octets-n-gt15.true)))
 
 pub returns-then-scheme-eq1 : goal.returns-then-scheme-eq1
 returns-then-scheme-eq1 c = rw c.if-scheme-eq1.true (odd_known c.args.octets.now c.if-n-lt1.false c.if-n-gt128.false _ c.if-octets-n-gt15.false c.known.ensures)

@@ -2,8 +2,7 @@
 use Prim.Native.Nat.{ℕ, zero, suc, ◌+◌, ◌-◌, ◌≤◌}
 use mathlib.Core.Path.{◌≡◌, refl, sym, ap, ◌∙◌}
 use mathlib.Core.Bool.{Bool, true, false}
-use mathlib.Core.Option
-use mathlib.Core.Option.{Option, none, some}
+use Rattle.std.specs.Prelude.{Option, None, Some, option_map, unwrap_or}
 use mathlib.Core.List.{List, map}
 use native.Mathlib.Omega.{arith}
 use borrow.Author.Tests.{le-leb}
@@ -54,7 +53,7 @@ module _ (v : List ℕ) (within : length v ≤ most) (k : Kept) (there : is_kept
       HeldIn v 8 k
       → (answer : Outcome (Unit {0})) (g : GlobalTitle)
       → record { answer = answer; title = g } ≡ title_answer (read_title built_in lent)
-      → g ≡ Option.get_or (Option.map record_of (kept_title built_in v k)) no_title
+      → g ≡ unwrap_or (option_map record_of (kept_title built_in v k)) no_title
   unfolding read_title title_in title_answer
   title_kept h answer g e =
       let (inside, long) = h there in
@@ -63,7 +62,7 @@ module _ (v : List ℕ) (within : length v ≤ most) (k : Kept) (there : is_kept
       bounded-within value (title_in built_in value) (omega arith) ∙ rw (le-leb 8 (length value) (omega arith)) in
       ap (λ (a : TitleAnswer). a.title) (e ∙ ap (λ w. title_answer (read_title built_in w)) same ∙ ap title_answer read) ∙ rw there
 
-  number-known : HeldIn v 4 k → bounded lent (accepted (number_in lent)) ≡ accepted (some (four_in value))
+  number-known : HeldIn v 4 k → bounded lent (accepted (number_in lent)) ≡ accepted (Some (four_in value))
   unfolding number_in
   number-known h =
       let (inside, long) = h there in
@@ -72,10 +71,10 @@ module _ (v : List ℕ) (within : length v ≤ most) (k : Kept) (there : is_kept
       ∙ bounded-within value (accepted (number_in value)) (omega arith)
       ∙ rw (le-leb 4 (length value) (omega arith))
 
-  pub code-kept : HeldIn v 4 k → (n : ℕ) → accepted (some n) ≡ bounded lent (accepted (number_in lent)) → n ≡ Option.get_or (kept_code v k) 0
-  code-kept h n e = ap (λ (o : Option ℕ). Option.get_or o 0) (accepted_inj (e ∙ number-known h)) ∙ rw there
+  pub code-kept : HeldIn v 4 k → (n : ℕ) → accepted (Some n) ≡ bounded lent (accepted (number_in lent)) → n ≡ unwrap_or (kept_code v k) 0
+  code-kept h n e = ap (λ (o : Option ℕ). unwrap_or o 0) (accepted_inj (e ∙ number-known h)) ∙ rw there
 
-  pub code_none : {X : Type 0} → HeldIn v 4 k → accepted none ≡ bounded lent (accepted (number_in lent)) → X
+  pub code_none : {X : Type 0} → HeldIn v 4 k → accepted None ≡ bounded lent (accepted (number_in lent)) → X
   code_none h e = absurd (unlike (ap is_there (accepted_inj (e ∙ number-known h))))
     where
       unlike : false ≡ true → ⊥
@@ -84,7 +83,7 @@ module _ (v : List ℕ) (within : length v ≤ most) (k : Kept) (there : is_kept
   pub code_refused : {X : Type 0} (n : ℕ) (vs : List ℕ) → HeldIn v 4 k → refused n vs ≡ bounded lent (accepted (number_in lent)) → X
   code_refused n vs h e = absurd (never (e ∙ number-known h))
 
-pub sub-kept : (v : List ℕ) (k : Kept) → is_kept k ≡ true → HeldIn v 4 k → get_or v (k.start + 3) 0 ≡ Option.get_or (kept_sub v k) 0
+pub sub-kept : (v : List ℕ) (k : Kept) → is_kept k ≡ true → HeldIn v 4 k → get_or v (k.start + 3) 0 ≡ unwrap_or (kept_sub v k) 0
 sub-kept v k there h = sym (value_at v (place_of k) 3 (omega (arith, (h there).1))) ∙ rw there
 
 -- The record of the parts that the walk keeps.
@@ -95,11 +94,11 @@ parts_record v s = record {
   include_pc = bit 2 (get_or v 3 0);
   include_ssn = bit 1 (get_or v 3 0);
   has_title = is_kept s.title;
-  global_title = Option.get_or (Option.map record_of (kept_title built_in v s.title)) no_title;
+  global_title = unwrap_or (option_map record_of (kept_title built_in v s.title)) no_title;
   has_point_code = is_kept s.code;
-  point_code = Option.get_or (kept_code v s.code) 0;
+  point_code = unwrap_or (kept_code v s.code) 0;
   has_ssn = is_kept s.ssn;
-  ssn = Option.get_or (kept_sub v s.ssn) 0;
+  ssn = unwrap_or (kept_sub v s.ssn) 0;
   other_count = s.other_count;
 }
 
@@ -135,9 +134,9 @@ pub record_made :
     → gt ≡ bit 4 (get_or v 3 0)
     → pc ≡ bit 2 (get_or v 3 0)
     → ssn ≡ bit 1 (get_or v 3 0)
-    → g ≡ Option.get_or (Option.map record_of (kept_title built_in v s.title)) no_title
-    → c ≡ Option.get_or (kept_code v s.code) 0
-    → u ≡ Option.get_or (kept_sub v s.ssn) 0
+    → g ≡ unwrap_or (option_map record_of (kept_title built_in v s.title)) no_title
+    → c ≡ unwrap_or (kept_code v s.code) 0
+    → u ≡ unwrap_or (kept_sub v s.ssn) 0
     → accepted (record {
       routing_indicator = i;
       include_gt = gt;
@@ -162,13 +161,13 @@ named_value (suc (suc (suc zero))) h = refl
 named_value (suc (suc (suc (suc zero)))) h = refl
 named_value (suc (suc (suc (suc (suc n))))) h = absurd (omega arith)
 
-title_back : (t : Option Title) → flagged (is_there t) (title_of (Option.get_or (Option.map record_of t) no_title)) ≡ t
-title_back none = refl
-title_back (some t) = ap some (record_back t)
+title_back : (t : Option Title) → flagged (is_there t) (title_of (unwrap_or (option_map record_of t) no_title)) ≡ t
+title_back None = refl
+title_back (Some t) = ap Some (record_back t)
 
-number_back : (o : Option ℕ) → flagged (is_there o) (Option.get_or o 0) ≡ o
-number_back none = refl
-number_back (some n) = refl
+number_back : (o : Option ℕ) → flagged (is_there o) (unwrap_or o 0) ≡ o
+number_back None = refl
+number_back (Some n) = refl
 
 -- The record of an address that was read stands for that address, with its others.
 pub address_back : (a : Address) → a.routing ≤ 4 → address_of (address_record a) a.others ≡ a

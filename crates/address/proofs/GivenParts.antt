@@ -2,7 +2,7 @@
 use Prim.Native.Nat.{ℕ, ◌+◌, ◌-◌, ◌*◌, ◌/◌, ◌≤◌, ◌<◌}
 use mathlib.Core.Path.{◌≡◌, refl, sym, ap, ◌∙◌}
 use mathlib.Core.Bool.{Bool, true, false}
-use mathlib.Core.Option.{some}
+use Rattle.std.specs.Prelude.{Some}
 use mathlib.Core.List.{List, [], ◌∷◌, ◌++◌, append-nil}
 use native.Mathlib.Omega.{arith}
 use borrow.Author.Tests.{le-leb, lt-leb, leb-true}
@@ -57,7 +57,7 @@ title_accepts {X} x true g qs e = go (leb g.count 255) e
     go :
         (t : Bool)
         → after (demand t 11 (g.count ∷ []) (accepted (title_of g))) (λ t. sub_param built_in (title t)) ≡ accepted qs
-        → (mapped (λ (t : Title). x) (demand t 11 (g.count ∷ []) (accepted (title_of g))) ≡ accepted x) × (each (sub_param built_in) (present title (some (title_of g))) ≡ accepted qs)
+        → (mapped (λ (t : Title). x) (demand t 11 (g.count ∷ []) (accepted (title_of g))) ≡ accepted x) × (each (sub_param built_in) (present title (Some (title_of g))) ≡ accepted qs)
     go true e = (refl, each_one (sub_param built_in) (title (title_of g)) ∙ e)
     go false e = absurd (never e)
 title_accepts x false g qs e = (refl, e)

@@ -3,7 +3,7 @@ use Prim.Native.Nat.{ℕ, ◌+◌, ◌≤◌, ◌<◌}
 use mathlib.Core.Path.{◌≡◌, refl, sym, ap, ◌∙◌}
 use mathlib.Core.Bool.{Bool, true, false}
 use mathlib.Core.Logic.{⊎_elim}
-use mathlib.Core.Option.{none, some}
+use Rattle.std.specs.Prelude.{None, Some}
 use mathlib.Core.List.{List, [], ◌∷◌, map}
 use native.Mathlib.Omega.{arith}
 use borrow.Author.Tests.{le-leb, lt-leb}
@@ -38,7 +38,7 @@ module _ (A : Alphabet) (v : List ℕ) (ps : List Place) where
   unfolding noted
   title_holds h =
       last_holds 0x8001 (piece_at A v) as_title (λ start length. title_at A (take length (drop start v))) (λ s. s.title)
-      (λ p. kinds (λ a b c. as_title (piece_by A v a b c p) ≡ pick a (some (title_at A (valued v p).value)) none) p.tag refl refl refl refl)
+      (λ p. kinds (λ a b c. as_title (piece_by A v a b c p) ≡ pick a (Some (title_at A (valued v p).value)) None) p.tag refl refl refl refl)
       (λ s p. kinds (λ a b c. (by a b c s p).title ≡ pick a (kept_place p) s.title) p.tag refl refl refl refl)
       nothing ps h
 
@@ -46,7 +46,7 @@ module _ (A : Alphabet) (v : List ℕ) (ps : List Place) where
   unfolding noted
   code_holds h =
       last_holds 0x8002 (piece_at A v) as_code (λ start length. four_in (take length (drop start v))) (λ s. s.code)
-      (λ p. kinds (λ a b c. as_code (piece_by A v a b c p) ≡ pick b (some (four_in (valued v p).value)) none) p.tag refl refl refl refl)
+      (λ p. kinds (λ a b c. as_code (piece_by A v a b c p) ≡ pick b (Some (four_in (valued v p).value)) None) p.tag refl refl refl refl)
       (λ s p. kinds (λ a b c. (by a b c s p).code ≡ pick b (kept_place p) s.code) p.tag refl refl refl refl)
       nothing ps h
 
@@ -54,7 +54,7 @@ module _ (A : Alphabet) (v : List ℕ) (ps : List Place) where
   unfolding noted
   sub_holds h =
       last_holds 0x8003 (piece_at A v) as_sub (λ start length. get_or (take length (drop start v)) 3 0) (λ s. s.ssn)
-      (λ p. kinds (λ a b c. as_sub (piece_by A v a b c p) ≡ pick c (some (get_or (valued v p).value 3 0)) none) p.tag refl refl refl refl)
+      (λ p. kinds (λ a b c. as_sub (piece_by A v a b c p) ≡ pick c (Some (get_or (valued v p).value 3 0)) None) p.tag refl refl refl refl)
       (λ s p. kinds (λ a b c. (by a b c s p).ssn ≡ pick c (kept_place p) s.ssn) p.tag refl refl refl refl)
       nothing ps h
 

@@ -4,7 +4,7 @@ use Prim.Native.Nat.{ℕ, ◌+◌, ◌≤◌, ◌<◌}
 use mathlib.Core.Path.{◌≡◌, refl, ap, ◌∙◌}
 use mathlib.Core.Bool.{Bool, true, false}
 use mathlib.Core.Logic.{◌⊎◌, inl, inr}
-use mathlib.Core.Option.{Option, none, some}
+use Rattle.std.specs.Prelude.{Option, None, Some}
 use mathlib.Core.List.{List, [], ◌∷◌, ◌++◌, map}
 use native.Mathlib.Omega.{arith}
 use borrow.Author.Tests.{le-leb, lt-leb, lt-ltb, le-ltb, ne_eqb, eqb-true}
@@ -76,11 +76,11 @@ pub note_short : (s : Parts) (p : Place) → (noted s p).short ≡ sooner s.shor
 unfolding noted
 note_short s p =
     kinds (λ a b c. (pick a (noted_title s p) (pick b (noted_code s p) (pick c (noted_ssn s p) (noted_other s p)))).short
-    ≡ sooner s.short p (pick a 8 (pick b 4 (pick c 4 0)))) p.tag refl refl refl (none s.short (is_short s.short) refl)
+    ≡ sooner s.short p (pick a 8 (pick b 4 (pick c 4 0)))) p.tag refl refl refl (unshort s.short (is_short s.short) refl)
   where
-    none : (k : Short) (t : Bool) → is_short k ≡ t → k ≡ sooner k p 0
-    none k true e = rw e
-    none k false e = rw (e, le-ltb p.length 0 (omega arith))
+    unshort : (k : Short) (t : Bool) → is_short k ≡ t → k ≡ sooner k p 0
+    unshort k true e = rw e
+    unshort k false e = rw (e, le-ltb p.length 0 (omega arith))
 
 pub judged-mapped : {X Y : Type 0} (f : X → Y) (k : Short) (o : Outcome X) → mapped f (judged k o) ≡ judged k (mapped f o)
 judged-mapped f k o = go (is_short k) refl
@@ -187,14 +187,14 @@ place_of k = record { tag = 0; start = k.start; length = k.length }
 
 -- The later of three.
 pub later-later : {X : Type 0} (a b c : Option X) → later a (later b c) ≡ later (later a b) c
-later-later none b c = refl
-later-later (some x) none c = refl
-later-later (some x) (some y) none = refl
-later-later (some x) (some y) (some z) = refl
+later-later None b c = refl
+later-later (Some x) None c = refl
+later-later (Some x) (Some y) None = refl
+later-later (Some x) (Some y) (Some z) = refl
 
 -- Of the pieces of a tag the last one is kept, for any tag.
 module _ {X : Type 0} (tag : ℕ) (piece_of : Place → Piece) (select : Piece → Option X) (part : (start length : ℕ) → X) (field : Parts → Kept)
-    (picks : (p : Place) → select (piece_of p) ≡ pick (eqb p.tag tag) (some (part p.start p.length)) none)
+    (picks : (p : Place) → select (piece_of p) ≡ pick (eqb p.tag tag) (Some (part p.start p.length)) None)
     (keeps : (s : Parts) (p : Place) → field (noted s p) ≡ pick (eqb p.tag tag) (kept_place p) (field s)) where
   abbrev held : Kept → Option X
   held k = flagged (is_kept k) (part k.start k.length)
@@ -202,7 +202,7 @@ module _ {X : Type 0} (tag : ℕ) (piece_of : Place → Piece) (select : Piece �
   holds_one : (s : Parts) (p : Place) → 0 < p.start → later (held (field s)) (select (piece_of p)) ≡ held (field (noted s p))
   holds_one s p h = rw (picks p, keeps s p) (go (eqb p.tag tag) (field s) (is_kept (field s)) refl)
     where
-      go : (t : Bool) (k : Kept) (u : Bool) → is_kept k ≡ u → later (held k) (pick t (some (part p.start p.length)) none) ≡ held (pick t (kept_place p) k)
+      go : (t : Bool) (k : Kept) (u : Bool) → is_kept k ≡ u → later (held k) (pick t (Some (part p.start p.length)) None) ≡ held (pick t (kept_place p) k)
       go true k true e = rw (e, lt-ltb 0 p.start h)
       go true k false e = rw (e, lt-ltb 0 p.start h)
       go false k true e = rw e
@@ -212,9 +212,9 @@ module _ {X : Type 0} (tag : ℕ) (piece_of : Place → Piece) (select : Piece �
   unfolding note_all
   last_holds s [] h = go (held (field s))
     where
-      go : (o : Option X) → later o none ≡ o
-      go none = refl
-      go (some x) = refl
+      go : (o : Option X) → later o None ≡ o
+      go None = refl
+      go (Some x) = refl
   last_holds s (p ∷ ps) h =
       later-later (held (field s)) (select (piece_of p)) (last select (map piece_of ps))
       ∙ ap (λ o. later o (last select (map piece_of ps))) (holds_one s p h.0)

@@ -2,7 +2,7 @@
 use Prim.Native.Nat.{ℕ, ◌+◌, ◌≤◌}
 use mathlib.Core.Path.{◌≡◌, refl, ◌∙◌}
 use mathlib.Core.Bool.{Bool, true, false}
-use mathlib.Core.Option.{Option, none, some}
+use Rattle.std.specs.Prelude.{Option, None, Some}
 use mathlib.Core.List.{List, [], ◌∷◌, ◌++◌, map}
 use native.Mathlib.Omega.{arith}
 use Rattle.bcd.specs.Outcome.{All, pick}
@@ -17,13 +17,13 @@ total-append (x ∷ xs) ys = omega (arith, total-append xs ys)
 
 -- One more piece in front of the one that holds, for any kind of piece.
 module _ {X : Type 0} (g : X → Piece) (x : X) where
-  front-all : (P : Piece → Type 0) (o : Option X) → P (g x) → All P (present g o) → All P (present g (later (some x) o))
-  front-all P none h k = (h, k)
-  front-all P (some y) h k = k
+  front-all : (P : Piece → Type 0) (o : Option X) → P (g x) → All P (present g o) → All P (present g (later (Some x) o))
+  front-all P None h k = (h, k)
+  front-all P (Some y) h k = k
 
-  front-room : (o : Option X) → total_length (present g (later (some x) o)) ≤ piece_length (g x) + total_length (present g o)
-  front-room none = omega arith
-  front-room (some y) = omega arith
+  front-room : (o : Option X) → total_length (present g (later (Some x) o)) ≤ piece_length (g x) + total_length (present g o)
+  front-room None = omega arith
+  front-room (Some y) = omega arith
 
 -- The pieces that hold, kind by kind.
 abbrev titles : List Piece → List Piece
@@ -86,15 +86,15 @@ module _ (routing bits : ℕ) (xs : List Piece) where
 
 -- A selector passes over pieces of another kind, and finds one of its own where it is the last.
 module _ {X : Type 0} (f : Piece → Option X) where
-  skip : {Y : Type 0} (g : Y → Piece) → ((y : Y) → f (g y) ≡ none) → (o : Option Y) (xs : List Piece) → last f (present g o ++ xs) ≡ last f xs
-  skip g h none xs = refl
-  skip g h (some y) xs = rw (h y)
+  skip : {Y : Type 0} (g : Y → Piece) → ((y : Y) → f (g y) ≡ None) → (o : Option Y) (xs : List Piece) → last f (present g o ++ xs) ≡ last f xs
+  skip g h None xs = refl
+  skip g h (Some y) xs = rw (h y)
 
-  find : (g : X → Piece) → ((x : X) → f (g x) ≡ some x) → (o : Option X) (xs : List Piece) → last f xs ≡ none → last f (present g o ++ xs) ≡ o
-  find g h none xs e = e
-  find g h (some x) xs e = rw (h x, e)
+  find : (g : X → Piece) → ((x : X) → f (g x) ≡ Some x) → (o : Option X) (xs : List Piece) → last f xs ≡ None → last f (present g o ++ xs) ≡ o
+  find g h None xs e = e
+  find g h (Some x) xs e = rw (h x, e)
 
-  last-others : ((p : Param) → f (other p) ≡ none) → (ps : List Param) → last f (map other ps) ≡ none
+  last-others : ((p : Param) → f (other p) ≡ None) → (ps : List Param) → last f (map other ps) ≡ None
   last-others h [] = refl
   last-others h (p ∷ ps) = rw (h p, last-others h ps)
 
@@ -103,8 +103,8 @@ others_skip :
     → ((y : Y) (xs : List Piece) → others_in (g y ∷ xs) ≡ others_in xs)
     → (o : Option Y) (xs : List Piece)
     → others_in (present g o ++ xs) ≡ others_in xs
-others_skip g h none xs = refl
-others_skip g h (some y) xs = h y xs
+others_skip g h None xs = refl
+others_skip g h (Some y) xs = h y xs
 
 others-others : (ps : List Param) → others_in (map other ps) ≡ ps
 others-others [] = refl

@@ -3,7 +3,7 @@ use Prim.Native.Nat.{ℕ, ◌+◌, ◌-◌, ◌*◌, ◌/◌, ◌≤◌, ◌<◌
 use mathlib.Core.Path.{◌≡◌, refl, sym, ap, ap₂, ◌∙◌}
 use mathlib.Core.Bool.{Bool, true, false}
 use mathlib.Core.Logic.{◌⊎◌, inl, inr}
-use mathlib.Core.Option.{Option, none, some}
+use Rattle.std.specs.Prelude.{Option, None, Some}
 use mathlib.Core.List.{List, [], ◌∷◌, ◌++◌, map, append-nil}
 use native.Mathlib.Omega.{arith}
 use borrow.Author.Tests.{lt-ltb, leb-true}
@@ -180,8 +180,8 @@ module _ {v : List ℕ} {s : Parts} (k : Walked v s) where
 
   pub sound : is_short s.short ≡ false → Sound v s
   sound e =
-      let none : Sound v nothing = record { title = λ t. unlike {X = _} t refl; code = λ t. unlike {X = _} t refl; ssn = λ t. unlike {X = _} t refl } in
-      rw k.parts (notes_sound v nothing k.places inside (λ e. none) (rw k.parts at e))
+      let unkept : Sound v nothing = record { title = λ t. unlike {X = _} t refl; code = λ t. unlike {X = _} t refl; ssn = λ t. unlike {X = _} t refl } in
+      rw k.parts (notes_sound v nothing k.places inside (λ e. unkept) (rw k.parts at e))
 
   pub others-sum : s.other_length ≡ run_length (map (valued v) (other_places k.places))
   others-sum = ap (λ (s : Parts). s.other_length) k.parts ∙ others-length v nothing k.places inside ∙ omega arith
@@ -194,8 +194,8 @@ module _ {v : List ℕ} {s : Parts} (k : Walked v s) where
 
 -- What is written of each kind.
 abbrev pub param_of : {X : Type 0} → (X → Param) → Option X → List Param
-param_of f none = []
-param_of f (some x) = f x ∷ []
+param_of f None = []
+param_of f (Some x) = f x ∷ []
 
 abbrev pub code_param : ℕ → Param
 code_param n = record { tag = 0x8002; value = four n }
@@ -206,13 +206,13 @@ sub_one n = record { tag = 0x8003; value = 0 ∷ 0 ∷ 0 ∷ n ∷ [] }
 module _ (A : Alphabet) where
   pub code-params : (o : Option ℕ) → each (sub_param A) (present code o) ≡ accepted (param_of code_param o)
   unfolding sub_param
-  code-params none = refl
-  code-params (some n) = refl
+  code-params None = refl
+  code-params (Some n) = refl
 
   pub sub-params : (o : Option ℕ) → each (sub_param A) (present sub o) ≡ accepted (param_of sub_one o)
   unfolding sub_param
-  sub-params none = refl
-  sub-params (some n) = refl
+  sub-params None = refl
+  sub-params (Some n) = refl
 
   other_params : (qs : List Param) → each (sub_param A) (map other qs) ≡ accepted qs
   unfolding sub_param

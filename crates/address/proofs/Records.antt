@@ -2,7 +2,7 @@
 use Prim.Native.Nat.{ℕ, ◌≤◌}
 use mathlib.Core.Path.{◌≡◌, refl, sym, ap, ◌∙◌}
 use mathlib.Core.Bool.{Bool, true, false}
-use mathlib.Core.Option.{none, some}
+use Rattle.std.specs.Prelude.{None, Some}
 use mathlib.Core.List.{[]}
 use lib.Dec.{lit≤}
 use Rattle.bcd.proofs.Outcomes.{accepted_inj, never}
@@ -40,11 +40,11 @@ routing_distinct (R.Refused r) (R.Refused s) e = ap R.Refused (refusals_distinct
 pub with_gt_address :
     (g : GlobalTitle) (has_ssn : Bool) (ssn : ℕ)
     → address_of (with_gt g has_ssn ssn) []
-    ≡ record { routing = 1; gt = true; pc = false; ssn = has_ssn; title = some (title_of g); code = none; sub = flagged has_ssn ssn; others = [] }
+    ≡ record { routing = 1; gt = true; pc = false; ssn = has_ssn; title = Some (title_of g); code = None; sub = flagged has_ssn ssn; others = [] }
 with_gt_address g has_ssn ssn = refl
 
 pub with_ssn_pc_address :
     (ssn code : ℕ)
     → address_of (with_ssn_pc ssn code) []
-    ≡ record { routing = 2; gt = false; pc = true; ssn = true; title = none; code = some code; sub = some ssn; others = [] }
+    ≡ record { routing = 2; gt = false; pc = true; ssn = true; title = None; code = Some code; sub = Some ssn; others = [] }
 with_ssn_pc_address ssn code = refl

@@ -2,8 +2,7 @@
 use Prim.Native.Nat.{ℕ, ◌≤◌, ◌<◌}
 use mathlib.Core.Path.{◌≡◌, refl, sym, ap, ◌∙◌, subst}
 use mathlib.Core.Bool.{Bool, true, false}
-use mathlib.Core.Option
-use mathlib.Core.Option.{Option, none, some}
+use Rattle.std.specs.Prelude.{Option, None, Some, option_map, unwrap_or}
 use mathlib.Core.List.{List, [], ◌∷◌, map}
 use native.Mathlib.Omega.{arith}
 use borrow.Author.Tests.{le-leb}
@@ -37,8 +36,8 @@ use Rattle.address.proofs.Tabling.{places-known}
 
 -- The digits of a title that was read are at most 255, so that writing takes its record.
 abbrev FewDigits : Option Title → Type 0
-FewDigits none = Unit {0}
-FewDigits (some t) = length t.digits ≤ 255
+FewDigits None = Unit {0}
+FewDigits (Some t) = length t.digits ≤ 255
 
 kept_few : (v : List ℕ) (k : Kept) → Octets v → FewDigits (kept_title built_in v k)
 kept_few v k o = go (is_kept k)
@@ -56,9 +55,9 @@ kept_few v k o = go (is_kept k)
 title_taken :
     (o : Option Title)
     → FewDigits o
-    → title_given (Option.get_or (Option.map record_of o) no_title) ≡ accepted (title_of (Option.get_or (Option.map record_of o) no_title))
-title_taken none f = refl
-title_taken (some t) f = rw (le-leb (length t.digits) 255 f)
+    → title_given (unwrap_or (option_map record_of o) no_title) ≡ accepted (title_of (unwrap_or (option_map record_of o) no_title))
+title_taken None f = refl
+title_taken (Some t) f = rw (le-leb (length t.digits) 255 f)
 
 given-known : (b : Bool) (x : Address) (o : Outcome Title) (t : Title) → o ≡ accepted t → pick b (mapped (λ t. x) o) (accepted x) ≡ accepted x
 given-known true x o t e = rw e

@@ -3,7 +3,7 @@
 use Prim.Native.Nat.{ℕ, zero, suc, ◌≤◌, ◌<◌}
 use mathlib.Core.Path.{◌≡◌, refl, ap, ◌∙◌}
 use mathlib.Core.Bool.{Bool, true, false}
-use mathlib.Core.Option.{Option, none, some, map}
+use Rattle.std.specs.Prelude.{Option, None, Some, option_map}
 use mathlib.Core.List.{List, [], ◌∷◌, ◌++◌}
 use native.Mathlib.Omega.{arith}
 use lib.Dec.{leb, eqb}
@@ -71,15 +71,15 @@ alike true = record { lawful = built_in_lawful; reads = λ v. refl }
 alike false = record { lawful = with_unknown_lawful; reads = reads_alike }
 
 -- A character's place in the front of a list.
-place-front : (c : ℕ) (xs ys : List ℕ) (h : ℕ) → place c xs ≡ some h → place c (xs ++ ys) ≡ some h
+place-front : (c : ℕ) (xs ys : List ℕ) (h : ℕ) → place c xs ≡ Some h → place c (xs ++ ys) ≡ Some h
 place-front c [] ys h e = let z : ◌≡◌ {A = ℕ} 0 1 = cc in absurd (omega arith)
 place-front c (x ∷ xs) ys h e = go (eqb c x) e (place-front c xs ys)
   where
-    tail : (o : Option ℕ) → place c xs ≡ o → map suc o ≡ some h → ((k : ℕ) → place c xs ≡ some k → place c (xs ++ ys) ≡ some k) → map suc (place c (xs ++ ys)) ≡ some h
-    tail none q e ih = let z : ◌≡◌ {A = ℕ} 0 1 = cc in absurd (omega arith)
-    tail (some k) q e ih = ap (map suc) (ih k q) ∙ e
+    tail : (o : Option ℕ) → place c xs ≡ o → option_map suc o ≡ Some h → ((k : ℕ) → place c xs ≡ Some k → place c (xs ++ ys) ≡ Some k) → option_map suc (place c (xs ++ ys)) ≡ Some h
+    tail None q e ih = let z : ◌≡◌ {A = ℕ} 0 1 = cc in absurd (omega arith)
+    tail (Some k) q e ih = ap (option_map suc) (ih k q) ∙ e
 
-    go : (t : Bool) → pick t (some 0) (map suc (place c xs)) ≡ some h → ((k : ℕ) → place c xs ≡ some k → place c (xs ++ ys) ≡ some k) → pick t (some 0) (map suc (place c (xs ++ ys))) ≡ some h
+    go : (t : Bool) → pick t (Some 0) (option_map suc (place c xs)) ≡ Some h → ((k : ℕ) → place c xs ≡ Some k → place c (xs ++ ys) ≡ Some k) → pick t (Some 0) (option_map suc (place c (xs ++ ys))) ≡ Some h
     go true e ih = e
     go false e ih = tail (place c xs) refl e ih
 
@@ -99,8 +99,8 @@ digit-same : (c : ℕ) (hs : List ℕ) → written c (built_in.half c) ≡ accep
 digit-same c hs e = go (built_in.half c) refl e
   where
     go : (o : Option ℕ) → built_in.half c ≡ o → written c o ≡ accepted hs → written c (with_unknown.half c) ≡ accepted hs
-    go none q e = absurd (never e)
-    go (some h) q e = ap (written c) (place-front (fold c) (take 15 characters) (0x3F ∷ []) h q) ∙ e
+    go None q e = absurd (never e)
+    go (Some h) q e = ap (written c) (place-front (fold c) (take 15 characters) (0x3F ∷ []) h q) ∙ e
 
 digits_same : (cs os : List ℕ) → write_digits built_in cs ≡ accepted os → write_digits with_unknown cs ≡ accepted os
 unfolding write_digits

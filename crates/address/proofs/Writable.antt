@@ -3,7 +3,7 @@ use Prim.Native.Nat.{ℕ, ◌+◌, ◌≤◌, ◌<◌}
 use mathlib.Core.Path.{◌≡◌, refl, sym, ap, ◌∙◌, subst}
 use mathlib.Core.Bool.{Bool, true, false}
 use mathlib.Core.Logic.{◌⊎◌, inl, inr, ⊎_elim, ◌↔◌}
-use mathlib.Core.Option.{Option, none, some}
+use Rattle.std.specs.Prelude.{Option, None, Some}
 use mathlib.Core.List.{List, [], ◌∷◌, ◌++◌, map}
 use native.Mathlib.Omega.{arith}
 use borrow.Author.Tests.{le-leb, lt-leb, eqb-true, eqb-false}
@@ -112,16 +112,16 @@ module _ (tag : ℕ) (v : List ℕ) (a : Address) (o : Octets v) (e : address_in
       (all_append KnownPiece (present sub a.sub) _ (subs a.sub) (others a.others)))
     where
       titles : (t : Option Title) → Known t → All KnownPiece (present title t)
-      titles none k = tt
-      titles (some t) k = (k, tt)
+      titles None k = tt
+      titles (Some t) k = (k, tt)
 
       codes : (n : Option ℕ) → All KnownPiece (present code n)
-      codes none = tt
-      codes (some n) = (tt, tt)
+      codes None = tt
+      codes (Some n) = (tt, tt)
 
       subs : (n : Option ℕ) → All KnownPiece (present sub n)
-      subs none = tt
-      subs (some n) = (tt, tt)
+      subs None = tt
+      subs (Some n) = (tt, tt)
 
       others : (ps : List Param) → All KnownPiece (map other ps)
       others [] = tt
@@ -144,9 +144,9 @@ module _ (tag : ℕ) (v : List ℕ) (a : Address) (o : Octets v) (e : address_in
       rest = present code a.code ++ (present sub a.sub ++ map other a.others)
 
       go : (t : Option Title) → a.title ≡ t → Known a.title ⊎ (write_address built_in tag a ≡ refused 9 (0x3F ∷ []))
-      go none h = inl (rw h tt)
-      go (some t) h =
-          let came : All (Came built_in) (present title (some t) ++ rest) = rw h at (readable built_in v a o e).came in
+      go None h = inl (rw h tt)
+      go (Some t) h =
+          let came : All (Came built_in) (present title (Some t) ++ rest) = rw h at (readable built_in v a o e).came in
           let c = came.0 in
           ⊎_elim (λ k. inl (rw h k)) (λ r. inr (title_refused_lem t rest 9 (0x3F ∷ []) (ap (λ t. present title t ++ rest) h) r))
           (title_known c.param.value t c.fits.octets (has_title_lem c))

@@ -1,7 +1,7 @@
 -- Global titles and addresses, read and written (RFC 3868, 3.10.2; document 01, module 3). The first argument is the
 -- alphabet of the digits.
 use Rattle.std.specs.Prelude.{ℕ, ◌+◌, ◌/◌, ◌%◌, Bool, List, [], ◌∷◌, ◌++◌, map, length, get_or, drop, leb, eqb}
-use Rattle.std.proofs.Math.Option.{Option, none, some}
+use Rattle.std.specs.Prelude.{Option, None, Some}
 use Rattle.bcd.specs.Outcome.{Outcome, accepted, pick, after, demand, mapped, each, bounded, fit64}
 use Rattle.bcd.specs.Digits.{Alphabet, digits_in, write_digits}
 use Rattle.parameter.specs.Parameter.{Param, param, two, four, four_in, most_value, encode_param, two_at}
@@ -74,32 +74,32 @@ piece_in A p =
 
 -- A piece of one kind, or none.
 abbrev pub as_title : Piece → Option Title
-as_title (title t) = some t
-as_title (code n) = none
-as_title (sub n) = none
-as_title (other p) = none
+as_title (title t) = Some t
+as_title (code n) = None
+as_title (sub n) = None
+as_title (other p) = None
 
 abbrev pub as_code : Piece → Option ℕ
-as_code (title t) = none
-as_code (code n) = some n
-as_code (sub n) = none
-as_code (other p) = none
+as_code (title t) = None
+as_code (code n) = Some n
+as_code (sub n) = None
+as_code (other p) = None
 
 abbrev pub as_sub : Piece → Option ℕ
-as_sub (title t) = none
-as_sub (code n) = none
-as_sub (sub n) = some n
-as_sub (other p) = none
+as_sub (title t) = None
+as_sub (code n) = None
+as_sub (sub n) = Some n
+as_sub (other p) = None
 
 -- The second of two, where both are there.
 abbrev pub later : {X : Type 0} → Option X → Option X → Option X
-later none o = o
-later (some x) none = some x
-later (some x) (some y) = some y
+later None o = o
+later (Some x) None = Some x
+later (Some x) (Some y) = Some y
 
 -- Of pieces of one kind the last one holds (document 01, module 3).
 abbrev pub last : {X : Type 0} → (Piece → Option X) → List Piece → Option X
-last f [] = none
+last f [] = None
 last f (x ∷ xs) = later (f x) (last f xs)
 
 -- The other sub-parameters, in order (document 01, module 3).
@@ -151,8 +151,8 @@ indicator a = pick a.ssn 1 0 + pick a.pc 2 0 + pick a.gt 4 0
 
 -- A part that is there, as a piece.
 abbrev pub present : {X : Type 0} → (X → Piece) → Option X → List Piece
-present f none = []
-present f (some x) = f x ∷ []
+present f None = []
+present f (Some x) = f x ∷ []
 
 -- The order of writing: title, point code, SSN, others (document 01, module 3).
 unfoldable pub pieces : Address → List Piece

@@ -1,6 +1,6 @@
 -- What the theorems of this crate give, where that is more than one fact; and which titles can be written again.
 use Rattle.std.specs.Prelude.{ℕ, ◌≤◌, ◌≡◌, List, length}
-use Rattle.std.proofs.Math.Option.{Option, none, some}
+use Rattle.std.specs.Prelude.{Option, None, Some}
 use Rattle.bcd.specs.Outcome.{accepted, Octets}
 use Rattle.bcd.specs.Digits.{Alphabet, KnownDigits}
 use Rattle.parameter.specs.Parameter.{padded_length, most_value}
@@ -9,8 +9,8 @@ use Rattle.address.specs.Lengths.{title_length}
 
 -- No digit of the title, if there is one, is ?.
 abbrev pub Known : Option Title → Type 0
-Known none = Unit {0}
-Known (some t) = KnownDigits t.digits
+Known None = Unit {0}
+Known (Some t) = KnownDigits t.digits
 
 -- A title that was read from v and written as w (`title_rewritten`): w is read back as it, and takes no more octets than v.
 pub record RewrittenTitle (A : Alphabet) (v w : List ℕ) (t : Title) : Type 0 where

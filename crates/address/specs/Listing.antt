@@ -1,7 +1,6 @@
 -- An address read into a record, with the places of its other sub-parameters in a lent table (document 01, module 3).
 use Rattle.std.specs.Prelude.{ℕ, Bool, true, false, List, [], ◌∷◌, eqb, length, get_or}
-use Rattle.std.proofs.Math.Option
-use Rattle.std.proofs.Math.Option.{Option, none, some, map}
+use Rattle.std.specs.Prelude.{Option, None, Some, option_map, unwrap_or}
 use Rattle.bcd.specs.Outcome.{Outcome, accepted, refused, pick, after, mapped}
 use Rattle.bcd.specs.Digits.{built_in}
 use Rattle.parameter.specs.Walk.{places}
@@ -32,8 +31,8 @@ routing_named n =
 
 -- Whether a part is there.
 abbrev pub is_there : {X : Type 0} → Option X → Bool
-is_there none = false
-is_there (some x) = true
+is_there None = false
+is_there (Some x) = true
 
 -- The record of an address: each part with a flag that says whether it is there, and zeros where it is not (document 01,
 -- 'Rust forms that cannot stay').
@@ -44,18 +43,18 @@ address_record a = record {
   include_pc = a.pc;
   include_ssn = a.ssn;
   has_title = is_there a.title;
-  global_title = Option.get_or (map record_of a.title) no_title;
+  global_title = unwrap_or (option_map record_of a.title) no_title;
   has_point_code = is_there a.code;
-  point_code = Option.get_or a.code 0;
+  point_code = unwrap_or a.code 0;
   has_ssn = is_there a.sub;
-  ssn = Option.get_or a.sub 0;
+  ssn = unwrap_or a.sub 0;
   other_count = length a.others;
 }
 
 -- The record beside a refusal.
 abbrev pub no_address : SuaAddress
 no_address =
-    address_record (record { routing = 0; gt = false; pc = false; ssn = false; title = none; code = none; sub = none; others = [] })
+    address_record (record { routing = 0; gt = false; pc = false; ssn = false; title = None; code = None; sub = None; others = [] })
 
 abbrev pub record_in : Outcome Address → SuaAddress
 record_in (accepted a) = address_record a

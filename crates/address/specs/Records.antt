@@ -1,6 +1,6 @@
 -- What the records and answers of the code stand for.
 use Rattle.std.specs.Prelude.{ℕ, Bool, true, false, List, [], ◌∷◌, take, replicate, leb}
-use Rattle.std.proofs.Math.Option.{Option, none, some}
+use Rattle.std.specs.Prelude.{Option, None, Some}
 use Rattle.bcd.specs.Outcome.{Outcome, accepted, pick, demand, mapped}
 use Rattle.bcd.specs.Answers.{refusal_of}
 use Rattle.parameter.specs.Parameter.{Param}
@@ -41,8 +41,8 @@ title_given g = demand (leb g.count 255) 11 (g.count ∷ []) (accepted (title_of
 
 -- A part that its flag says is there; one that is absent is absent whatever its field holds (document 01, module 6).
 abbrev pub flagged : {X : Type 0} → Bool → X → Option X
-flagged true x = some x
-flagged false x = none
+flagged true x = Some x
+flagged false x = None
 
 -- The address that a record stands for, with the other sub-parameters that its records in a lent table stand for.
 abbrev pub address_of : SuaAddress → List Param → Address

@@ -1,6 +1,6 @@
 // An address value read into a record, with its other sub-parameters in a lent table (address.rs; RFC 3868, 3.10.2).
 ghost use Rattle.std.specs.Prelude.{◌≡◌, ◌∷◌, [], ◌+◌, ◌≤◌, ◌<◌, length};
-ghost use Rattle.std.proofs.Math.Option.{map, get_or};
+ghost use Rattle.std.specs.Prelude.{option_map, unwrap_or};
 ghost use Rattle.bcd.specs.Outcome.{accepted, mapped, most};
 ghost use Rattle.bcd.specs.Answers.{refusal_of};
 ghost use Rattle.bcd.specs.Digits.{built_in};
@@ -59,7 +59,7 @@ pub fn refused(r: Refusal) -> AddressRead
 fn title_in(value: &[u8], kept: Kept) -> GlobalTitle
     requires held_in { HeldIn value.now 8 kept }
     requires value_len_bound { length value.now ≤ most }
-    ensures { result ≡ get_or (map record_of (kept_title built_in value.now kept)) no_title }
+    ensures { result ≡ unwrap_or (option_map record_of (kept_title built_in value.now kept)) no_title }
 {
     if 0 < kept.start {
         let start = kept.start;
@@ -74,7 +74,7 @@ fn title_in(value: &[u8], kept: Kept) -> GlobalTitle
 fn code_in(value: &[u8], kept: Kept) -> u32
     requires held_in { HeldIn value.now 4 kept }
     requires value_len_bound { length value.now ≤ most }
-    ensures { result ≡ get_or (kept_code value.now kept) 0 }
+    ensures { result ≡ unwrap_or (kept_code value.now kept) 0 }
 {
     if 0 < kept.start {
         let start = kept.start;
@@ -91,7 +91,7 @@ fn code_in(value: &[u8], kept: Kept) -> u32
 // The SSN that is kept; 0 if there is none.
 fn ssn_in(value: &[u8], kept: Kept) -> u8
     requires { HeldIn value.now 4 kept }
-    ensures { result ≡ get_or (kept_sub value.now kept) 0 }
+    ensures { result ≡ unwrap_or (kept_sub value.now kept) 0 }
 {
     if 0 < kept.start {
         return value[kept.start + 3];

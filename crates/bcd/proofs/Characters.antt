@@ -3,8 +3,7 @@ use Prim.Native.Nat.{ℕ, suc, ◌+◌, ◌-◌, ◌≤◌, ◌<◌}
 use mathlib.Core.Path.{◌≡◌, refl, sym, ap, ◌∙◌}
 use mathlib.Core.Bool.{Bool, true, false, ◌&&◌, ◌||◌}
 use mathlib.Core.Logic.{◌⊎◌, ⊎_elim}
-use mathlib.Core.Option
-use mathlib.Core.Option.{Option, none, some, map}
+use Rattle.std.specs.Prelude.{Option, None, Some, option_map, unwrap_or}
 use mathlib.Core.List.{List, [], ◌∷◌}
 use native.Mathlib.Omega.{arith}
 use lib.ListN.{length, get_or, take, get_or-eq_default}
@@ -18,28 +17,28 @@ use Rattle.bcd.proofs.Outcomes.{le_or_lt}
 use Rattle.bcd.proofs.Below.{all_below, both, below_at}
 
 -- a place is below the list's length, and the character stands there
-pub place_at : (c : ℕ) (xs : List ℕ) (h d : ℕ) → place c xs ≡ some h → (h < length xs) × (get_or xs h d ≡ c)
+pub place_at : (c : ℕ) (xs : List ℕ) (h d : ℕ) → place c xs ≡ Some h → (h < length xs) × (get_or xs h d ≡ c)
 place_at c [] h d e = let z : ◌≡◌ {A = ℕ} 0 1 = cc in absurd (omega arith)
 place_at c (x ∷ xs) h d e = first (λ k p. place_at c xs k d p) (eqb c x) refl e
   where
     Behind : Type 0
-    Behind = (k : ℕ) → place c xs ≡ some k → (k < length xs) × (get_or xs k d ≡ c)
+    Behind = (k : ℕ) → place c xs ≡ Some k → (k < length xs) × (get_or xs k d ≡ c)
 
-    later : Behind → (o : Option ℕ) → place c xs ≡ o → map suc o ≡ some h → (h < length (x ∷ xs)) × (get_or (x ∷ xs) h d ≡ c)
-    later b none p q = let z : ◌≡◌ {A = ℕ} 0 1 = cc in absurd (omega arith)
-    later b (some k) p q =
+    later : Behind → (o : Option ℕ) → place c xs ≡ o → option_map suc o ≡ Some h → (h < length (x ∷ xs)) × (get_or (x ∷ xs) h d ≡ c)
+    later b None p q = let z : ◌≡◌ {A = ℕ} 0 1 = cc in absurd (omega arith)
+    later b (Some k) p q =
         let s : suc k ≡ h = cc in
         let (small, there) = b k p in
         rw (← s) (omega arith, there)
 
-    first : Behind → (t : Bool) → eqb c x ≡ t → pick t (some 0) (map suc (place c xs)) ≡ some h → (h < length (x ∷ xs)) × (get_or (x ∷ xs) h d ≡ c)
+    first : Behind → (t : Bool) → eqb c x ≡ t → pick t (Some 0) (option_map suc (place c xs)) ≡ Some h → (h < length (x ∷ xs)) × (get_or (x ∷ xs) h d ≡ c)
     first b true t q = let z : 0 ≡ h = cc in rw (← z) (omega arith, sym (eqb-true c x t))
     first b false t q = later b (place c xs) refl q
 
 -- a half octet from its number, or 16 for none
-given_some : (o : Option ℕ) (h : ℕ) → Option.get_or o 16 ≡ h → h < 16 → o ≡ some h
-given_some none h e l = absurd (omega arith)
-given_some (some k) h e l = ap some e
+given_some : (o : Option ℕ) (h : ℕ) → unwrap_or o 16 ≡ h → h < 16 → o ≡ Some h
+given_some None h e l = absurd (omega arith)
+given_some (Some k) h e l = ap Some e
 
 -- the second of two tests, where the first does not hold
 otherwise : (a b : Bool) → a || b ≡ true → (a ≡ true → ⊥) → b ≡ true
@@ -84,19 +83,19 @@ nibble_none c small decimal star hash letter capital =
 pub built_in_lawful : Lawful built_in
 built_in_lawful = record { small = small; back = back }
   where
-    small : (c h : ℕ) → built_in.half c ≡ some h → h < 16
+    small : (c h : ℕ) → built_in.half c ≡ Some h → h < 16
     small c h e = let (l, there) = place_at (fold c) (take 15 characters) h 0 e in omega arith
 
-    back : (h k : ℕ) → h < 16 → built_in.half (built_in.char h) ≡ some k → k ≡ h
+    back : (h k : ℕ) → h < 16 → built_in.half (built_in.char h) ≡ Some k → k ≡ h
     back h k l e =
         let test : ℕ → Bool = λ i. eqb 16 (nibble built_in (built_in.char i)) || eqb (nibble built_in (built_in.char i)) i in
-        let n : nibble built_in (built_in.char h) ≡ k = ap (λ o. Option.get_or o 16) e in
+        let n : nibble built_in (built_in.char h) ≡ k = ap (λ o. unwrap_or o 16) e in
         let s = small (built_in.char h) k e in
         let unwritten : 16 ≡ nibble built_in (built_in.char h) → ⊥ = λ z. omega arith in
         sym n ∙ eqb-true _ _ (otherwise _ _ (below_at 16 test refl h l) (λ t. unwritten (eqb-true 16 _ t)))
 
 -- each of them but ? is written
-pub built_in-written : (h : ℕ) → h < 16 → (built_in.char h ≡ 0x3F → ⊥) → built_in.half (built_in.char h) ≡ some h
+pub built_in-written : (h : ℕ) → h < 16 → (built_in.char h ≡ 0x3F → ⊥) → built_in.half (built_in.char h) ≡ Some h
 built_in-written h l q =
     let test : ℕ → Bool = λ i. eqb (built_in.char i) 0x3F || eqb (nibble built_in (built_in.char i)) i in
     given_some _ h (eqb-true _ _ (otherwise _ _ (below_at 16 test refl h l) (λ t. q (eqb-true _ _ t)))) l
@@ -104,7 +103,7 @@ built_in-written h l q =
 -- and they are all different
 pub built_in-distinct : (h k : ℕ) → h < 16 → k < 16 → built_in.char h ≡ built_in.char k → h ≡ k
 built_in-distinct h k lh lk e =
-    let number : ℕ → ℕ = λ c. Option.get_or (place c characters) 16 in
+    let number : ℕ → ℕ = λ c. unwrap_or (place c characters) 16 in
     let test : ℕ → Bool = λ i. eqb (number (built_in.char i)) i in
     sym (eqb-true _ _ (below_at 16 test refl h lh)) ∙ ap number e ∙ eqb-true _ _ (below_at 16 test refl k lk)
 
@@ -144,17 +143,17 @@ pub half_fold : (c : ℕ) → built_in.half (fold c) ≡ built_in.half c
 half_fold c = ap (λ k. place k (take 15 characters)) (fold-fold c)
 
 -- what is written reads as it was, but for folding
-pub char_half : (c h : ℕ) → built_in.half c ≡ some h → built_in.char h ≡ fold c
+pub char_half : (c h : ℕ) → built_in.half c ≡ Some h → built_in.char h ≡ fold c
 char_half c h e =
     let (l, there) = place_at (fold c) (take 15 characters) h 0x3F e in
     sym (get_or-take 15 characters h 0x3F (omega arith)) ∙ there
 
 -- a character that is folded is written
-pub fold-written : (c : ℕ) → built_in.half c ≡ none → fold c ≡ c
+pub fold-written : (c : ℕ) → built_in.half c ≡ None → fold c ≡ c
 fold-written c e =
     ⊎_elim
     (λ low. ⊎_elim
-    (λ high. let z : 16 ≡ nibble built_in c = sym (ap (λ o. Option.get_or o 16) e) in absurd (written (c - 0x41) (omega arith) (let s : c - 0x41 + 0x41 ≡ c = omega arith in rw s z)))
+    (λ high. let z : 16 ≡ nibble built_in c = sym (ap (λ o. unwrap_or o 16) e) in absurd (written (c - 0x41) (omega arith) (let s : c - 0x41 + 0x41 ≡ c = omega arith in rw s z)))
     (λ high. fold_large c high)
     (le_or_lt c 0x43))
     (λ low. fold_small c low)

@@ -2,8 +2,7 @@
 use Prim.Native.Nat.{ℕ, ◌*◌, ◌≤◌, ◌<◌, min}
 use mathlib.Core.Path.{◌≡◌, refl, sym, ap, ap₂, ◌∙◌}
 use mathlib.Core.Logic.{◌↔◌}
-use mathlib.Core.Option
-use mathlib.Core.Option.{Option, none, some}
+use Rattle.std.specs.Prelude.{Option, None, Some, unwrap_or}
 use mathlib.Core.List.{List, [], ◌∷◌, ◌++◌, map}
 use native.Mathlib.Omega.{arith}
 use lib.ListN.{length, get_or, take, length-map}
@@ -23,15 +22,15 @@ read_at_most A xs count h = omega (arith, digits-length A xs count)
 
 -- f of a character is what its half octet, if it has one, reads as
 abbrev pub Reads : Alphabet → (ℕ → ℕ) → ℕ → Type 0
-Reads A f c = (h : ℕ) → A.half c ≡ some h → A.char h ≡ f c
+Reads A f c = (h : ℕ) → A.half c ≡ Some h → A.char h ≡ f c
 
 module _ (A : Alphabet) (L : Lawful A) where
-  half_nibble : (c : ℕ) → nibble A c ≤ 15 → A.half c ≡ some (nibble A c)
+  half_nibble : (c : ℕ) → nibble A c ≤ 15 → A.half c ≡ Some (nibble A c)
   half_nibble c h = go (A.half c) h
     where
-      go : (o : Option ℕ) → Option.get_or o 16 ≤ 15 → o ≡ some (Option.get_or o 16)
-      go none h = absurd (omega arith)
-      go (some k) h = refl
+      go : (o : Option ℕ) → unwrap_or o 16 ≤ 15 → o ≡ Some (unwrap_or o 16)
+      go None h = absurd (omega arith)
+      go (Some k) h = refl
 
   nibbles_small : (cs : List ℕ) → All (λ (c : ℕ). nibble A c ≤ 15) cs → Nibbles (map (nibble A) cs)
   nibbles_small [] h = tt
@@ -97,7 +96,7 @@ module _ (A : Alphabet) where
 
 -- Half octets whose characters are written as those half octets.
 abbrev pub Back : Alphabet → ℕ → Type 0
-Back A h = A.half (A.char h) ≡ some h
+Back A h = A.half (A.char h) ≡ Some h
 
 pub nibbles_back : (A : Alphabet) (hs : List ℕ) → All (Back A) hs → nibbles A (map A.char hs) ≡ accepted hs
 nibbles_back A [] b = refl
@@ -151,8 +150,8 @@ unfolding write_digits
 fold_writes cs = rw (length-map cs fold, each_map (λ c. written c (built_in.half c)) (λ c. written c (built_in.half c)) fold one cs)
   where
     go : (c : ℕ) (o : Option ℕ) → built_in.half c ≡ o → written (fold c) o ≡ written c o
-    go c none e = ap (λ (k : ℕ). refused 9 (k ∷ [])) (fold-written c e)
-    go c (some h) e = refl
+    go c None e = ap (λ (k : ℕ). refused 9 (k ∷ [])) (fold-written c e)
+    go c (Some h) e = refl
 
     one : (c : ℕ) → written (fold c) (built_in.half (fold c)) ≡ written c (built_in.half c)
     one c = ap (written (fold c)) (half_fold c) ∙ go c (built_in.half c) refl

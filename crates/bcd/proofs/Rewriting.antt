@@ -2,7 +2,7 @@
 use Prim.Native.Nat.{ℕ, zero, suc, ◌+◌, ◌*◌, ◌/◌, ◌%◌, ◌-◌, ◌≤◌, ◌<◌, min}
 use mathlib.Core.Path.{◌≡◌, refl, sym, ap, ap₂, ◌∙◌}
 use mathlib.Core.Logic.{◌⊎◌, inl, inr, ⊎_elim}
-use mathlib.Core.Option
+use Rattle.std.specs.Prelude.{unwrap_or}
 use mathlib.Core.List.{List, [], ◌∷◌, ◌++◌, map}
 use native.Mathlib.Omega.{arith}
 use borrow.Author.Tests.{eq-eqb, ne_eqb}
@@ -154,7 +154,7 @@ rewritten_octets xs n os e =
     same (h ∷ hs) d =
         let low : h < 15 =
         ⊎_elim (λ l. let z : 16 ≤ 15 = rw (ap (nibble built_in) (question h l)) at d.0 in absurd (omega arith)) (λ l. l) (le_or_lt 15 h) in
-        ap₂ ◌∷◌ (ap (λ o. Option.get_or o 16) (back h low)) (same hs d.1)
+        ap₂ ◌∷◌ (ap (λ o. unwrap_or o 16) (back h low)) (same hs d.1)
 
 -- .. which are the octets themselves, but for an odd last high half.
 pub octets_even : (m : ℕ) (xs : List ℕ) → m ≤ length xs → pack (take (2 * m) (halves xs)) ≡ take m xs

@@ -1,8 +1,7 @@
 -- Digits that are written: how far a check has come, and what is written in the end.
 use Prim.Native.Nat.{ℕ, ◌+◌, ◌/◌, ◌≤◌, ◌<◌}
 use mathlib.Core.Path.{◌≡◌, refl, sym, ap, ap₂, ◌∙◌}
-use mathlib.Core.Option
-use mathlib.Core.Option.{Option, none, some}
+use Rattle.std.specs.Prelude.{Option, None, Some, unwrap_or}
 use mathlib.Core.List.{List, [], ◌∷◌, ◌++◌, map, map-append}
 use native.Mathlib.Omega.{arith}
 use native.Mathlib.Numerals.{add-one}
@@ -24,16 +23,16 @@ nibbles A = each (λ c. written c (A.half c))
 pub written-digit : (A : Alphabet) (c : ℕ) → nibble A c ≤ 15 → written c (A.half c) ≡ accepted (nibble A c ∷ [])
 written-digit A c h = go (A.half c) h
   where
-    go : (o : Option ℕ) → Option.get_or o 16 ≤ 15 → written c o ≡ accepted (Option.get_or o 16 ∷ [])
-    go none h = absurd (omega arith)
-    go (some k) h = refl
+    go : (o : Option ℕ) → unwrap_or o 16 ≤ 15 → written c o ≡ accepted (unwrap_or o 16 ∷ [])
+    go None h = absurd (omega arith)
+    go (Some k) h = refl
 
 pub written_none : (A : Alphabet) → Lawful A → (c : ℕ) → 15 < nibble A c → written c (A.half c) ≡ refused 9 (c ∷ [])
 written_none A L c h = go (A.half c) refl h
   where
-    go : (o : Option ℕ) → A.half c ≡ o → 15 < Option.get_or o 16 → written c o ≡ refused 9 (c ∷ [])
-    go none e h = refl
-    go (some k) e h = absurd (omega (arith, L.small c k e))
+    go : (o : Option ℕ) → A.half c ≡ o → 15 < unwrap_or o 16 → written c o ≡ refused 9 (c ∷ [])
+    go None e h = refl
+    go (Some k) e h = absurd (omega (arith, L.small c k e))
 
 module _ (A : Alphabet) (cs : List ℕ) where
   -- 11 before all else
@@ -95,9 +94,9 @@ pub record Good (A : Alphabet) (cs : List ℕ) (n : ℕ) : Type 0 where
 written_inv : (A : Alphabet) → Lawful A → (c : ℕ) (hs : List ℕ) → written c (A.half c) ≡ accepted hs → (nibble A c ≤ 15) × (nibble A c ∷ [] ≡ hs)
 written_inv A L c hs e = go (A.half c) refl e
   where
-    go : (o : Option ℕ) → A.half c ≡ o → written c o ≡ accepted hs → (Option.get_or o 16 ≤ 15) × (Option.get_or o 16 ∷ [] ≡ hs)
-    go none p e = absurd (never e)
-    go (some k) p e = (omega (arith, L.small c k p), accepted_inj e)
+    go : (o : Option ℕ) → A.half c ≡ o → written c o ≡ accepted hs → (unwrap_or o 16 ≤ 15) × (unwrap_or o 16 ∷ [] ≡ hs)
+    go None p e = absurd (never e)
+    go (Some k) p e = (omega (arith, L.small c k p), accepted_inj e)
 
 nibbles_inv : (A : Alphabet) → Lawful A → (cs hs : List ℕ) → nibbles A cs ≡ accepted hs → All (λ (c : ℕ). nibble A c ≤ 15) cs × (map (nibble A) cs ≡ hs)
 nibbles_inv A L [] hs e = (tt, accepted_inj e)

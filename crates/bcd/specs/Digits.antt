@@ -1,7 +1,6 @@
 -- The digits of a global title (RFC 3868, 3.10.2.3; coded as ITU-T Q.713, 3.4.2.3.1, but for document 01, module 1).
 use Rattle.std.specs.Prelude.{ℕ, suc, ◌+◌, ◌*◌, ◌/◌, ◌%◌, ◌<◌, min, ◌≡◌, ◌&&◌, List, [], ◌∷◌, map, length, get_or, take, leb, eqb}
-use Rattle.std.proofs.Math.Option
-use Rattle.std.proofs.Math.Option.{Option, none, some}
+use Rattle.std.specs.Prelude.{Option, None, Some, option_map}
 use Rattle.bcd.specs.Outcome.{Outcome, accepted, refused, pick, demand, mapped, each, All, bounded}
 
 -- The half octets of an octet string, the low half of each octet first (RFC 3868, 3.10.2.3).
@@ -22,13 +21,13 @@ pub record Alphabet : Type 0 where
 
 -- A character is written as a half octet; what a half octet reads as is written, if at all, as that half octet.
 pub record Lawful (A : Alphabet) : Type 0 where
-  pub small : (c h : ℕ) → A.half c ≡ some h → h < 16
-  pub back : (h k : ℕ) → h < 16 → A.half (A.char h) ≡ some k → k ≡ h
+  pub small : (c h : ℕ) → A.half c ≡ Some h → h < 16
+  pub back : (h k : ℕ) → h < 16 → A.half (A.char h) ≡ Some k → k ≡ h
 
 -- The first place of a character in a list, if it is there.
 abbrev pub place : ℕ → List ℕ → Option ℕ
-place c [] = none
-place c (x ∷ xs) = pick (eqb c x) (some 0) (Option.map suc (place c xs))
+place c [] = None
+place c (x ∷ xs) = pick (eqb c x) (Some 0) (option_map suc (place c xs))
 
 -- The built-in characters of the half octets 0 to 15 (document 01, module 1): 0 1 2 3 4 5 6 7 8 9 * # a b c ?
 abbrev pub characters : List ℕ
@@ -53,8 +52,8 @@ read_digits A xs count = bounded xs (accepted (digits_in A xs count))
 
 -- A character that is written as no half octet is refused as 9.
 abbrev pub written : ℕ → Option ℕ → Outcome (List ℕ)
-written c none = refused 9 (c ∷ [])
-written c (some h) = accepted (h ∷ [])
+written c None = refused 9 (c ∷ [])
+written c (Some h) = accepted (h ∷ [])
 
 -- Writing digits refuses 11, then 9 at the first bad one (document 01, 'Order').
 unfoldable pub write_digits : Alphabet → List ℕ → Outcome (List ℕ)

@@ -1,6 +1,6 @@
 -- A flat account of a message with its addresses, fit to be compared field by field with another decoder's.
 use Rattle.std.specs.Prelude.{ℕ, List, [], ◌∷◌, ◌++◌, map, length}
-use Rattle.std.proofs.Math.Option.{Option, none, some}
+use Rattle.std.specs.Prelude.{Option, None, Some}
 use Rattle.bcd.specs.Outcome.{Outcome, accepted, pick, after, mapped, each}
 use Rattle.bcd.specs.Digits.{Alphabet}
 use Rattle.parameter.specs.declared.Place.{Place}
@@ -23,8 +23,8 @@ places_octets (p ∷ ps) = place_octets p ++ places_octets ps
 
 -- 0; or 1 and the fields of a part that is there.
 abbrev pub marked : {X : Type 0} → (X → List ℕ) → Option X → List ℕ
-marked f none = 0 ∷ []
-marked f (some x) = 1 ∷ f x
+marked f None = 0 ∷ []
+marked f (Some x) = 1 ∷ f x
 
 -- The four descriptors, the number of digits, and the digits as characters.
 abbrev pub title_fields : Title → List ℕ

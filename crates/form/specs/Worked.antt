@@ -1,7 +1,7 @@
 -- The worked messages: the starred ones of document 01, S1 to S12, messages with both addresses, and messages with hop
 -- counters.
 use Rattle.std.specs.Prelude.{ℕ, ◌≡◌, true, List, [], ◌∷◌, ◌++◌, take}
-use Rattle.std.proofs.Math.Option.{none, some}
+use Rattle.std.specs.Prelude.{None, Some}
 use Rattle.bcd.specs.Outcome.{Outcome, accepted, refused}
 use Rattle.bcd.specs.Digits.{built_in, read_digits, write_digits}
 use Rattle.parameter.specs.Parameter.{param, four}
@@ -56,7 +56,7 @@ starred =
     ∷ settles (take 7 asp) (refused 1 (8 ∷ 7 ∷ []))
     -- S10
     ∷ address_reads (words (0x00020007 ∷ 0x80030008 ∷ 0x00000006 ∷ 0x80030008 ∷ 0x00000008 ∷ []))
-    (accepted (record { routing = 2; gt = true; pc = true; ssn = true; title = none; code = none; sub = some 8; others = [] }))
+    (accepted (record { routing = 2; gt = true; pc = true; ssn = true; title = None; code = None; sub = Some 8; others = [] }))
     -- S11: 123, 123?, 1230; and a CLDT whose source address has the second title
     ∷ digits_read (0x21 ∷ 0xF3 ∷ []) 3 (accepted (0x31 ∷ 0x32 ∷ 0x33 ∷ []))
     ∷ digits_read (0x21 ∷ 0xF3 ∷ []) 4 (accepted (0x31 ∷ 0x32 ∷ 0x33 ∷ 0x3F ∷ []))

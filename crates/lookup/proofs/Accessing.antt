@@ -2,7 +2,7 @@
 use Prim.Native.Nat.{ℕ, ◌+◌, ◌-◌, ◌/◌, ◌%◌, ◌≤◌, ◌<◌}
 use mathlib.Core.Path.{◌≡◌, refl, sym, ap, ◌∙◌, subst}
 use mathlib.Core.Bool.{Bool, true, false}
-use mathlib.Core.Option.{Option, none, some, map}
+use Rattle.std.specs.Prelude.{Option, None, Some, option_map}
 use mathlib.Core.List.{List, [], ◌∷◌}
 use native.Mathlib.Omega.{arith}
 use lib.Dec.{leb, eqb}
@@ -19,16 +19,16 @@ use Rattle.parameter.proofs.Records.{first_rows, held, value-length}
 use Rattle.lookup.specs.Accessors.{of_four, read_at, first_read, fourth, cause_in}
 use Rattle.lookup.specs.Octets.{fourth_octet, cause_octets}
 
-first-all : (P : Place → Type 0) (tag : ℕ) (ps : List Place) (p : Place) → All P ps → first_with tag ps ≡ some p → P p
+first-all : (P : Place → Type 0) (tag : ℕ) (ps : List Place) (p : Place) → All P ps → first_with tag ps ≡ Some p → P p
 first-all P tag [] p h e = let z : ◌≡◌ {A = ℕ} 0 1 = cc in absurd (omega arith)
 first-all P tag (q ∷ ps) p h e = go (eqb q.tag tag) (first-all P tag ps p h.1) e
   where
-    go : (b : Bool) → (first_with tag ps ≡ some p → P p) → pick b (some q) (first_with tag ps) ≡ some p → P p
+    go : (b : Bool) → (first_with tag ps ≡ Some p → P p) → pick b (Some q) (first_with tag ps) ≡ Some p → P p
     go true later e = let same : q ≡ p = cc in subst P same h.0
     go false later e = later e
 
 -- A record that was found lies inside the values.
-pub find_inside : (values : List ℕ) (t : Table) (count tag : ℕ) (p : Place) → accepted (some p) ≡ find_param values t count tag → p.start + p.length ≤ length values
+pub find_inside : (values : List ℕ) (t : Table) (count tag : ℕ) (p : Place) → accepted (Some p) ≡ find_param values t count tag → p.start + p.length ≤ length values
 unfolding find_param
 find_inside values t count tag p e =
     let (ps, hp, f) = after_inv (records values t count) _ (sym e) in
@@ -47,10 +47,10 @@ read_found read tag values t count o e = ap (mapped (read_at read values)) e
 pub part_value : (values : List ℕ) (p : Place) → take (p.start + p.length - p.start) (drop p.start values) ≡ (valued values p).value
 part_value values p = let e : p.start + p.length - p.start ≡ p.length = omega arith in ap (λ n. take n (drop p.start values)) e
 
-four-short : {A : Type 0} (read : List ℕ → A) (v : List ℕ) → length v < 4 → of_four read v ≡ none
+four-short : {A : Type 0} (read : List ℕ → A) (v : List ℕ) → length v < 4 → of_four read v ≡ None
 four-short read v h = rw (lt-leb 4 (length v) h)
 
-four_long : {A : Type 0} (read : List ℕ → A) (v : List ℕ) → 4 ≤ length v → of_four read v ≡ some (read v)
+four_long : {A : Type 0} (read : List ℕ → A) (v : List ℕ) → 4 ≤ length v → of_four read v ≡ Some (read v)
 four_long read v h = rw (le-leb 4 (length v) h)
 
 -- A value of under four octets, and the first four of one that has more.
@@ -58,7 +58,7 @@ pub value-short :
     {A : Type 0} (read : List ℕ → A) (values : List ℕ) (p : Place)
     → p.start + p.length ≤ length values
     → p.length < 4
-    → none ≡ of_four read (valued values p).value
+    → None ≡ of_four read (valued values p).value
 value-short read values p inside h = sym (four-short read (valued values p).value (rw (value-length values p inside) h))
 
 front : (v : List ℕ) (n : ℕ) → 4 ≤ n → four_in (take 4 v) ≡ four_in (take n v)
@@ -87,7 +87,7 @@ value-front values p n inside h e =
     let long : length (take 4 w) ≡ 4 = rw (length-take 4 w, length-drop p.start values) (omega arith) in
     rw e
     (bounded-within (take 4 w) _ (rw long (omega arith))
-    ∙ ap accepted (four_long four_in (take 4 w) (omega arith) ∙ ap some (front w p.length h)
+    ∙ ap accepted (four_long four_in (take 4 w) (omega arith) ∙ ap Some (front w p.length h)
     ∙ sym (four_long four_in (valued values p).value (rw (value-length values p inside) h))))
 
 pub value-octets : (values : List ℕ) (p : Place) → Octets values → Octets (valued values p).value
@@ -99,18 +99,18 @@ pub four_then :
     → ((v : List ℕ) → Octets v → f (four_in v) ≡ read v)
     → (tag : ℕ) (values : List ℕ) (t : Table) (count : ℕ)
     → Octets values
-    → mapped (map f) (first_read (of_four four_in) tag values t count) ≡ first_read (of_four read) tag values t count
+    → mapped (option_map f) (first_read (of_four four_in) tag values t count) ≡ first_read (of_four read) tag values t count
 unfolding first_read
 four_then f read same tag values t count o = go (find_param values t count tag)
   where
-    told : (b : Bool) (v : List ℕ) → Octets v → map f (pick b (some (four_in v)) none) ≡ pick b (some (read v)) none
-    told true v k = ap some (same v k)
+    told : (b : Bool) (v : List ℕ) → Octets v → option_map f (pick b (Some (four_in v)) None) ≡ pick b (Some (read v)) None
+    told true v k = ap Some (same v k)
     told false v k = refl
 
-    go : (o : Outcome (Option Place)) → mapped (map f) (mapped (read_at (of_four four_in) values) o) ≡ mapped (read_at (of_four read) values) o
+    go : (o : Outcome (Option Place)) → mapped (option_map f) (mapped (read_at (of_four four_in) values) o) ≡ mapped (read_at (of_four read) values) o
     go (refused n vs) = refl
-    go (accepted none) = refl
-    go (accepted (some p)) = ap accepted (told (leb 4 (length (valued values p).value)) (valued values p).value (value-octets values p o))
+    go (accepted None) = refl
+    go (accepted (Some p)) = ap accepted (told (leb 4 (length (valued values p).value)) (valued values p).value (value-octets values p o))
 
 pub fourth-of : (v : List ℕ) → Octets v → fourth_octet (four_in v) ≡ fourth v
 unfolding two_at

@@ -1,7 +1,7 @@
 -- An address read through an accessor: the starts of its others are moved to count from the first octet of the values.
 use Prim.Native.Nat.{ℕ, ◌+◌, ◌^◌, ◌≤◌, ◌<◌}
 use mathlib.Core.Path.{◌≡◌, refl, sym, ap, ◌∙◌, subst}
-use mathlib.Core.Option.{none, some}
+use Rattle.std.specs.Prelude.{None, Some}
 use mathlib.Core.Logic.{◌⊎◌, inl, inr, ⊎_elim}
 use mathlib.Core.List.{List, [], ◌∷◌, ◌++◌, map, map-map}
 use native.Mathlib.Omega.{arith}
@@ -86,7 +86,7 @@ tabulate_refused n vs t = refl
 
 -- What reading an address into a table did: it left the table, or it stored the others.
 record Left (v : List ℕ) (t : Table) (a : SuaAddress) (held : Table) : Type 0 where
-  none : a.other_count ≡ 0
+  no_others : a.other_count ≡ 0
   same : held ≡ t
   either : (base : ℕ) → (tabulate (mapped (map (moved base)) (address_places v)) t).table ≡ t
 
@@ -121,7 +121,7 @@ module _ (v : List ℕ) (t : Table) (o : Outcome (Unit {0})) (a : SuaAddress) (h
       → ((base : ℕ) → (tabulate (mapped (map (moved base)) (address_places v)) t).table ≡ t)
       → Left v t a held
   was_left n vs s m = record {
-    none = ap (λ (a : SuaAddress). a.other_count)
+    no_others = ap (λ (a : SuaAddress). a.other_count)
         (told-address ∙ ap (λ (s : Tabulated). recorded (read_address built_in v) s.answer) s ∙ recorded_none (read_address built_in v) n vs);
     same = told-table ∙ ap (λ (s : Tabulated). s.table) s;
     either = m;
@@ -199,9 +199,9 @@ pub record Moves (base : ℕ) (v : List ℕ) (t : Table) (o : Outcome (Unit {0})
 module _ (base : ℕ) (v : List ℕ) (t : Table) (o : Outcome (Unit {0})) (a : SuaAddress) (held : Table) (small : base + length v < 2 ^ 64) where
   left_moves : Left v t a held → Moves base v t o a held
   left_moves l = record {
-    few = omega (arith, l.none);
-    fit = rw l.none tt;
-    done = rw l.none (l.same ∙ sym (l.either base));
+    few = omega (arith, l.no_others);
+    fit = rw l.no_others tt;
+    done = rw l.no_others (l.same ∙ sym (l.either base));
   }
 
   put_moves : Put v t a held → Moves base v t o a held
@@ -245,10 +245,10 @@ pub address_refused : (tag : ℕ) (values : List ℕ) (n : ℕ) (vs : List ℕ) 
 unfolding address_found
 address_refused tag values n vs held = refl
 
-pub address_none : (tag : ℕ) (values : List ℕ) (held : Table) → listed (refused 7 (tag ∷ [])) no_address held ≡ address_found tag values (accepted none) held
+pub address_none : (tag : ℕ) (values : List ℕ) (held : Table) → listed (refused 7 (tag ∷ [])) no_address held ≡ address_found tag values (accepted None) held
 unfolding address_found
 address_none tag values held = refl
 
-pub address-there : (tag : ℕ) (values : List ℕ) (p : Place) (held : Table) → list_address_at p.start (valued values p).value held ≡ address_found tag values (accepted (some p)) held
+pub address-there : (tag : ℕ) (values : List ℕ) (p : Place) (held : Table) → list_address_at p.start (valued values p).value held ≡ address_found tag values (accepted (Some p)) held
 unfolding address_found
 address-there tag values p held = refl

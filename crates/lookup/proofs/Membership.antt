@@ -3,7 +3,7 @@ use Prim.Native.Nat.{ℕ, zero, suc, ◌+◌, ◌*◌, ◌%◌, ◌≤◌, ◌<�
 use mathlib.Core.Path.{◌≡◌, refl, sym, ap, ◌∙◌, subst}
 use mathlib.Core.Bool.{Bool, true, false, ◌&&◌, ◌||◌, and-true, and-false, or-false}
 use mathlib.Core.Logic.{◌↔◌}
-use mathlib.Core.Option.{Option, none, some}
+use Rattle.std.specs.Prelude.{Option, None, Some}
 use mathlib.Core.List.{List, [], ◌∷◌}
 use native.Mathlib.Omega.{arith}
 use native.Mathlib.Nat.{add-zero}
@@ -120,20 +120,20 @@ module _ (values : List ℕ) (t : Table) (count : ℕ) where
   pub every_value :
       (set : List ℕ)
       → (contexts_in values t count set ≡ accepted true)
-      ↔ ((p : Place) × (find_param values t count 0x0006 ≡ accepted (some p)) × EveryMember set (valued values p).value)
+      ↔ ((p : Place) × (find_param values t count 0x0006 ≡ accepted (Some p)) × EveryMember set (valued values p).value)
   unfolding contexts_in
   every_value set = go (find_param values t count 0x0006)
     where
       go :
           (o : Outcome (Option Place))
           → (mapped (all_in_set_at set values) o ≡ accepted true)
-          ↔ ((p : Place) × (o ≡ accepted (some p)) × EveryMember set (valued values p).value)
+          ↔ ((p : Place) × (o ≡ accepted (Some p)) × EveryMember set (valued values p).value)
       go (refused n vs) = ((λ e. absurd (never e)), (λ (p, e, k). absurd (never e)))
-      go (accepted none) = (
+      go (accepted None) = (
         (λ e. let z : ◌≡◌ {A = ℕ} 0 1 = cc in absurd (omega arith)),
         (λ (p, e, k). let z : ◌≡◌ {A = ℕ} 0 1 = cc in absurd (omega arith)),
       )
-      go (accepted (some p)) = (
+      go (accepted (Some p)) = (
         (λ e. (p, refl, (value_iff set (valued values p).value).0 (accepted_inj e))),
         (λ (q, e, k). let same : q ≡ p = cc in
             ap accepted ((value_iff set (valued values p).value).1 (subst (λ (r : Place). EveryMember set (valued values r).value) same k))),
@@ -143,18 +143,18 @@ module _ (values : List ℕ) (t : Table) (count : ℕ) where
   -- value compared with that number.
   pub one_context :
       (n : ℕ)
-      → ((p : Place) → find_param values t count 0x0006 ≡ accepted (some p) → length (valued values p).value ≤ 4)
+      → ((p : Place) → find_param values t count 0x0006 ≡ accepted (Some p) → length (valued values p).value ≤ 4)
       → contexts_in values t count (n ∷ []) ≡ mapped (compared_with n) (routing_context values t count)
   unfolding contexts_in first_read
   one_context n h = go (find_param values t count 0x0006) h
     where
       go :
           (o : Outcome (Option Place))
-          → ((p : Place) → o ≡ accepted (some p) → length (valued values p).value ≤ 4)
+          → ((p : Place) → o ≡ accepted (Some p) → length (valued values p).value ≤ 4)
           → mapped (all_in_set_at (n ∷ []) values) o ≡ mapped (compared_with n) (mapped (read_at (of_four four_in) values) o)
       go (refused m vs) h = refl
-      go (accepted none) h = refl
-      go (accepted (some p)) h = ap accepted (four n (valued values p).value (h p refl))
+      go (accepted None) h = refl
+      go (accepted (Some p)) h = ap accepted (four n (valued values p).value (h p refl))
 
   -- 15 comes first, whatever the set.
   pub contexts_outside : (set : List ℕ) → records values t count ≡ refused 15 [] → contexts_in values t count set ≡ refused 15 []
@@ -174,8 +174,8 @@ module _ (values : List ℕ) (t : Table) (count : ℕ) where
 
       go : (o : Outcome (Option Place)) → mapped (all_in_set_at set values) o ≡ mapped (all_in_set_at set₁ values) o
       go (refused n vs) = refl
-      go (accepted none) = refl
-      go (accepted (some p)) =
+      go (accepted None) = refl
+      go (accepted (Some p)) =
           let v = (valued values p).value in
           ap (λ b. accepted (ltb 0 (length v) && (eqb (length v % 4) 0 && b))) (every-same told (contexts_of v))
 

@@ -2,7 +2,7 @@
 use Prim.Native.Nat.{ℕ, zero, suc, ◌+◌, ◌≤◌, ◌<◌}
 use mathlib.Core.Path.{◌≡◌, refl, sym, ap, ap₂, ◌∙◌}
 use mathlib.Core.Bool.{Bool, true, false}
-use mathlib.Core.Option.{none, some}
+use Rattle.std.specs.Prelude.{None, Some}
 use mathlib.Core.Logic.{⊎_elim}
 use mathlib.Core.List.{List, [], ◌∷◌, map}
 use native.Mathlib.Omega.{arith}
@@ -31,7 +31,7 @@ row_first tag (p ∷ ps) = go (eqb p.tag tag) (row_first tag ps)
     go :
         (b : Bool)
         → head_of (drop (first_row tag ps) ps) ≡ first_with tag ps
-        → head_of (drop (pick b 0 (suc (first_row tag ps))) (p ∷ ps)) ≡ pick b (some p) (first_with tag ps)
+        → head_of (drop (pick b 0 (suc (first_row tag ps))) (p ∷ ps)) ≡ pick b (Some p) (first_with tag ps)
     go true later = refl
     go false later = later
 
@@ -112,10 +112,10 @@ module _ (values ts ss ls : List ℕ) (count : ℕ) (a : count ≤ length ts) (b
 
   pub pass_start : (first : List ℕ) → first ≡ map (λ (tag : ℕ). count) wanted → Passed values ts ss ls count count first
   pass_start first e =
-      let none : drop count ps ≡ [] = ap (λ n. drop n ps) (sym long) ∙ drop-length ps in
+      let nothing_left : drop count ps ≡ [] = ap (λ n. drop n ps) (sym long) ∙ drop-length ps in
       record {
-        inside = rw none tt;
-        rows = rw none (e ∙ rows_none wanted count);
+        inside = rw nothing_left tt;
+        rows = rw nothing_left (e ∙ rows_none wanted count);
       }
 
   pub pass_outside :
@@ -161,13 +161,13 @@ module _ (values ts ss ls : List ℕ) (count : ℕ) (a : count ≤ length ts) (b
       }
 
 -- What a row that was kept stands for: nothing behind the last record, and otherwise its record.
-drop-behind : (ps : List Place) (n : ℕ) → length ps ≤ n → head_of (drop n ps) ≡ none
+drop-behind : (ps : List Place) (n : ℕ) → length ps ≤ n → head_of (drop n ps) ≡ None
 drop-behind [] zero h = refl
 drop-behind [] (suc n) h = refl
 drop-behind (p ∷ ps) zero h = absurd (omega arith)
 drop-behind (p ∷ ps) (suc n) h = drop-behind ps n (omega arith)
 
-pub kept-behind : (t : Table) (count row : ℕ) → count ≤ row → accepted none ≡ kept_at false t count row
+pub kept-behind : (t : Table) (count row : ℕ) → count ≤ row → accepted None ≡ kept_at false t count row
 kept-behind t count row h =
     let ps = rows t.tags t.starts t.lengths in
     sym (ap accepted (drop-behind (take count ps) row (omega (arith, length-take count ps))))
@@ -180,9 +180,9 @@ pub kept_row :
     (t : Table) (count row : ℕ)
     → count ≤ room t
     → row < count
-    → accepted (some (record { tag = get_or t.tags row 0; start = get_or t.starts row 0; length = get_or t.lengths row 0 })) ≡ kept_at false t count row
+    → accepted (Some (record { tag = get_or t.tags row 0; start = get_or t.starts row 0; length = get_or t.lengths row 0 })) ≡ kept_at false t count row
 kept_row t count row few h =
     let (a, b, c) = room_long t count few in
     let here = first_at t.tags t.starts t.lengths count a b c row h in
     let more = drop-cons (first_rows t.tags t.starts t.lengths count) row nowhere (rw (first-length t.tags t.starts t.lengths count a b c) h) in
-    sym (ap (λ (ps : List Place). accepted (head_of ps)) more ∙ ap (λ (p : Place). accepted (some p)) here)
+    sym (ap (λ (ps : List Place). accepted (head_of ps)) more ∙ ap (λ (p : Place). accepted (Some p)) here)

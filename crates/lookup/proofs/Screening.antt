@@ -1,7 +1,7 @@
 -- The screen: its worked examples by computation, and 15, which answers in all seven fields.
 use Prim.Native.Nat.{ℕ}
 use mathlib.Core.Path.{◌≡◌, refl, ap}
-use mathlib.Core.Option.{Option, none, some}
+use Rattle.std.specs.Prelude.{Option, None, Some}
 use mathlib.Core.List.{List, [], ◌∷◌}
 use Rattle.bcd.specs.Outcome.{Outcome, refused, mapped}
 use Rattle.parameter.specs.declared.Place.{Place}
@@ -40,10 +40,10 @@ pub worked_screens :
     ∷ handling worked_values (worked_table 0x0102 4 20) 14 room_for_none room_for_one
     ∷ handling worked_values (worked_table 0x0102 4 37) 14 room_for_one room_for_one
     ∷ [])
-    (worked_fields (some 7) worked_source worked_destination
-    ∷ worked_fields none worked_source worked_destination
-    ∷ worked_fields (some 7) (refused_with 7 (0x0102 ∷ []) room_for_one) worked_destination
-    ∷ worked_fields (some 7) (refused_with 13 (1 ∷ []) room_for_none) worked_destination
+    (worked_fields (Some 7) worked_source worked_destination
+    ∷ worked_fields None worked_source worked_destination
+    ∷ worked_fields (Some 7) (refused_with 7 (0x0102 ∷ []) room_for_one) worked_destination
+    ∷ worked_fields (Some 7) (refused_with 13 (1 ∷ []) room_for_none) worked_destination
     ∷ all_outside room_for_one room_for_one
     ∷ [])
 unfolding

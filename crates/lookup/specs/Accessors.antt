@@ -1,7 +1,7 @@
 -- The accessors of a message: its parameters by name (RFC 3868, 3.9 and 3.10; document 01, module 6). Each takes the values,
 -- the table of records and their count; 15 looks at every record (document 01, 'Order').
 use Rattle.std.specs.Prelude.{ℕ, ◌+◌, List, [], ◌∷◌, map, length, get_or, leb}
-use Rattle.std.proofs.Math.Option.{Option, none, some}
+use Rattle.std.specs.Prelude.{Option, None, Some}
 use Rattle.bcd.specs.Outcome.{Outcome, accepted, refused, pick, mapped}
 use Rattle.bcd.specs.Answers.{refusal_of}
 use Rattle.parameter.specs.declared.Place.{Place}
@@ -17,12 +17,12 @@ use Rattle.lookup.specs.declared.Cause.TheVariants as C
 
 -- What a value of four octets or more reads as; nothing under four.
 abbrev pub of_four : {A : Type 0} → (List ℕ → A) → List ℕ → Option A
-of_four read v = pick (leb 4 (length v)) (some (read v)) none
+of_four read v = pick (leb 4 (length v)) (Some (read v)) None
 
 -- What the value at a place reads as, if there is one.
 abbrev pub read_at : {A : Type 0} → (List ℕ → Option A) → List ℕ → Option Place → Option A
-read_at read values none = none
-read_at read values (some p) = read (valued values p).value
+read_at read values None = None
+read_at read values (Some p) = read (valued values p).value
 
 -- The first parameter with a tag, read; no later one is looked at.
 unfoldable pub first_read : {A : Type 0} → (List ℕ → Option A) → (tag : ℕ) → List ℕ → Table → (count : ℕ) → Outcome (Option A)
@@ -59,8 +59,8 @@ abbrev pub data_at : List ℕ → Table → (count : ℕ) → Outcome (Option Pl
 data_at values t count = find_param values t count 0x010B
 
 abbrev pub shown : List ℕ → Outcome (Option Place) → List ℕ
-shown values (accepted (some p)) = (valued values p).value
-shown values (accepted none) = []
+shown values (accepted (Some p)) = (valued values p).value
+shown values (accepted None) = []
 shown values (refused number vs) = []
 
 abbrev pub data_part : List ℕ → Table → (count : ℕ) → List ℕ
@@ -81,8 +81,8 @@ list_address_at base v held =
 -- 'Order'). A refusal leaves the table as it was.
 unfoldable pub address_found : (tag : ℕ) → List ℕ → Outcome (Option Place) → Table → Listed
 address_found tag values (refused number vs) held = listed (refused number vs) no_address held
-address_found tag values (accepted none) held = listed (refused 7 (tag ∷ [])) no_address held
-address_found tag values (accepted (some p)) held = list_address_at p.start (valued values p).value held
+address_found tag values (accepted None) held = listed (refused 7 (tag ∷ [])) no_address held
+address_found tag values (accepted (Some p)) held = list_address_at p.start (valued values p).value held
 
 -- Source and destination address (RFC 3868, 3.10.2 and 3.10.3).
 abbrev pub source_address : List ℕ → Table → (count : ℕ) → Table → Listed
@@ -93,11 +93,11 @@ destination_address values t count = address_found 0x0103 values (find_param val
 
 -- Which outcome each answer is.
 abbrev pub octet_of : Octet → Outcome (Option ℕ)
-octet_of (O.Value n) = accepted (some n)
-octet_of O.None = accepted none
+octet_of (O.Value n) = accepted (Some n)
+octet_of O.None = accepted None
 octet_of (O.Refused r) = refusal_of r
 
 abbrev pub cause_of : Cause → Outcome (Option SccpCause)
-cause_of (C.Value s) = accepted (some s)
-cause_of C.None = accepted none
+cause_of (C.Value s) = accepted (Some s)
+cause_of C.None = accepted None
 cause_of (C.Refused r) = refusal_of r

@@ -1,7 +1,7 @@
 -- Several routing contexts together (document 02, CR 6): one parameter lists 32-bit values (RFC 3868, 3.9, 0x0006), and a
 -- member signs for a set of them.
 use Rattle.std.specs.Prelude.{ℕ, ◌*◌, ◌%◌, ◌<◌, ◌≡◌, Bool, true, false, ◌&&◌, List, [], ◌∷◌, length, get_or, drop, eqb, ltb}
-use Rattle.std.proofs.Math.Option.{Option, none, some}
+use Rattle.std.specs.Prelude.{Option, None, Some}
 use Rattle.bcd.specs.Outcome.{Outcome, accepted, mapped, every, among}
 use Rattle.bcd.specs.Answers.{refusal_of}
 use Rattle.parameter.specs.declared.Place.{Place}
@@ -25,8 +25,8 @@ all_in_set set v = ltb 0 (length v) && (eqb (length v % 4) 0 && every (λ n. amo
 
 -- The same of the value at a place; no where there is no such parameter.
 abbrev pub all_in_set_at : (set values : List ℕ) → Option Place → Bool
-all_in_set_at set values none = false
-all_in_set_at set values (some p) = all_in_set set (valued values p).value
+all_in_set_at set values None = false
+all_in_set_at set values (Some p) = all_in_set set (valued values p).value
 
 -- Of the first Routing Context; 15 first, as for any accessor.
 unfoldable pub contexts_in : List ℕ → Table → (count : ℕ) → (set : List ℕ) → Outcome Bool
@@ -50,5 +50,5 @@ pub record EveryMember (set v : List ℕ) : Type 0 where
 
 -- The accessor's value compared with one number (`one_context`): no where there is none.
 abbrev pub compared_with : ℕ → Option ℕ → Bool
-compared_with n none = false
-compared_with n (some context) = eqb n context
+compared_with n None = false
+compared_with n (Some context) = eqb n context

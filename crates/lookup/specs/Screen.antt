@@ -1,7 +1,7 @@
 -- All handling fields of a message at once (document 02, CR 2): each is what its own accessor gives, and each address has a
 -- table of its own.
 use Rattle.std.specs.Prelude.{ℕ, List}
-use Rattle.std.proofs.Math.Option.{Option}
+use Rattle.std.specs.Prelude.{Option}
 use Rattle.bcd.specs.Outcome.{Outcome}
 use Rattle.parameter.specs.Table.{Table}
 use Rattle.parameter.specs.Answers.{number_of}

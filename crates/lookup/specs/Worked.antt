@@ -1,6 +1,6 @@
 -- Worked screens: records with each of the seven tags twice, and what is shown where an address or a record is not right.
 use Rattle.std.specs.Prelude.{ℕ, false, List, [], ◌∷◌}
-use Rattle.std.proofs.Math.Option.{Option, none, some}
+use Rattle.std.specs.Prelude.{Option, None, Some}
 use Rattle.bcd.specs.Outcome.{accepted, refused}
 use Rattle.parameter.specs.Parameter.{param}
 use Rattle.parameter.specs.Table.{Table, table}
@@ -42,10 +42,10 @@ room_for_none = table (9 ∷ []) [] (9 ∷ [])
 abbrev pub worked_fields : Option ℕ → (source destination : Listed) → Handling
 worked_fields context source destination = record {
   context = accepted context;
-  class = accepted (some 1);
-  control = accepted (some 0x0100);
-  hops = accepted (some 15);
-  cause = accepted (some (record { cause_type = 4; cause_value = 9 }));
+  class = accepted (Some 1);
+  control = accepted (Some 0x0100);
+  hops = accepted (Some 15);
+  cause = accepted (Some (record { cause_type = 4; cause_value = 9 }));
   source = source;
   destination = destination;
 }
@@ -53,13 +53,13 @@ worked_fields context source destination = record {
 abbrev pub worked_source : Listed
 worked_source =
     listed (accepted tt)
-    (address_record (record { routing = 1; gt = false; pc = false; ssn = false; title = none; code = none; sub = none; others = param 0x8005 [] ∷ [] }))
+    (address_record (record { routing = 1; gt = false; pc = false; ssn = false; title = None; code = None; sub = None; others = param 0x8005 [] ∷ [] }))
     (table (0x8005 ∷ []) (28 ∷ []) (0 ∷ []))
 
 abbrev pub worked_destination : Listed
 worked_destination =
     listed (accepted tt)
-    (address_record (record { routing = 2; gt = false; pc = false; ssn = false; title = none; code = none; sub = some 6; others = param 0x8005 [] ∷ [] }))
+    (address_record (record { routing = 2; gt = false; pc = false; ssn = false; title = None; code = None; sub = Some 6; others = param 0x8005 [] ∷ [] }))
     (table (0x8005 ∷ []) (44 ∷ []) (0 ∷ []))
 
 -- An address that was refused, with its table as it was.

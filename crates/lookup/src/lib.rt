@@ -7,7 +7,7 @@ mod pass;
 pub mod screen;
 
 ghost use Rattle.std.specs.Prelude.{◌≡◌, map, ℕ, ◌+◌, ◌^◌, ◌≤◌, ◌<◌, length, take};
-ghost use Rattle.std.proofs.Math.Option;
+ghost use Rattle.std.specs.Prelude.{None, option_map};
 ghost use Rattle.bcd.specs.Outcome.{mapped, All};
 ghost use Rattle.parameter.specs.Parameter.{four_in};
 ghost use Rattle.parameter.specs.Table.{table, over, find_param};
@@ -87,7 +87,7 @@ pub fn first_number(
 
 // The fourth octet of a number.
 pub fn fourth_octet(number: Number) -> Octet
-    ensures { octet_of result ≡ mapped (Option.map fourth_octet) (number_of number) }
+    ensures { octet_of result ≡ mapped (option_map fourth_octet) (number_of number) }
 {
     match number {
         Number::Value(n) => Octet::Value((n % 256) as u8),
@@ -98,7 +98,7 @@ pub fn fourth_octet(number: Number) -> Octet
 
 // The third and the fourth octet of a number.
 pub fn last_octets(number: Number) -> Cause
-    ensures { cause_of result ≡ mapped (Option.map cause_octets) (number_of number) }
+    ensures { cause_of result ≡ mapped (option_map cause_octets) (number_of number) }
 {
     match number {
         Number::Value(n) => Cause::Value(SccpCause {

@@ -1,7 +1,7 @@
 -- The accessors on small tables, by computation.
 use Prim.Native.Nat.{ℕ}
 use mathlib.Core.Path.{◌≡◌, refl}
-use mathlib.Core.Option.{none, some}
+use Rattle.std.specs.Prelude.{None, Some}
 use mathlib.Core.List.{List, [], ◌∷◌}
 use Rattle.bcd.specs.Outcome.{accepted, refused}
 use Rattle.parameter.specs.Parameter.{two_at}
@@ -17,15 +17,15 @@ values : List ℕ
 values = 1 ∷ 2 ∷ 3 ∷ 0xFF ∷ 0 ∷ 7 ∷ 9 ∷ []
 
 -- The first routing context has three octets: the second is not looked at.
-short-first : routing_context values (table (6 ∷ 6 ∷ []) (0 ∷ 3 ∷ []) (3 ∷ 4 ∷ [])) 2 ≡ accepted none
+short-first : routing_context values (table (6 ∷ 6 ∷ []) (0 ∷ 3 ∷ []) (3 ∷ 4 ∷ [])) 2 ≡ accepted None
 unfolding values first_read find_param records room rows record_in
 short-first = refl
 
-class_fourth : protocol_class values (table (6 ∷ 0x0115 ∷ []) (0 ∷ 3 ∷ []) (3 ∷ 4 ∷ [])) 2 ≡ accepted (some 9)
+class_fourth : protocol_class values (table (6 ∷ 0x0115 ∷ []) (0 ∷ 3 ∷ []) (3 ∷ 4 ∷ [])) 2 ≡ accepted (Some 9)
 unfolding values first_read find_param records room rows record_in
 class_fourth = refl
 
-cause_third_fourth : sccp_cause values (table (0x0106 ∷ []) (3 ∷ []) (4 ∷ [])) 1 ≡ accepted (some (record { cause_type = 7; cause_value = 9 }))
+cause_third_fourth : sccp_cause values (table (0x0106 ∷ []) (3 ∷ []) (4 ∷ [])) 1 ≡ accepted (Some (record { cause_type = 7; cause_value = 9 }))
 unfolding values first_read find_param records room rows record_in
 cause_third_fourth = refl
 

@@ -3,7 +3,7 @@
 use Prim.Native.Nat.{ℕ, zero, suc, ◌+◌, ◌≤◌, ◌<◌}
 use mathlib.Core.Path.{◌≡◌, refl, sym, ap, ap₂, ◌∙◌}
 use mathlib.Core.Logic.{⊎_elim}
-use mathlib.Core.Option.{Option, none, some}
+use Rattle.std.specs.Prelude.{Option, None, Some}
 use mathlib.Core.List.{List, [], ◌∷◌, map}
 use native.Mathlib.Omega.{arith}
 use lib.ListN.{length, take, drop, length-map}
@@ -116,5 +116,5 @@ written_from_accessor tag values u count t held r o e = go (find_param values u 
         → listed (accepted tt) r held ≡ address_found tag values f t
         → Back values (find_param values u count tag) held r
     go (refused n vs) h e = absurd (never (sym (ap (λ (l : Listed). l.answer) e)))
-    go (accepted none) h e = absurd (never (sym (ap (λ (l : Listed). l.answer) e)))
-    go (accepted (some p)) h e = record { place = p; there = h; written = read_back values p t held r o (find_inside values u count tag p (sym h)) e }
+    go (accepted None) h e = absurd (never (sym (ap (λ (l : Listed). l.answer) e)))
+    go (accepted (Some p)) h e = record { place = p; there = h; written = read_back values p t held r o (find_inside values u count tag p (sym h)) e }

@@ -2,7 +2,7 @@
 use Prim.Native.Nat.{ℕ, ◌+◌, ◌≤◌, ◌<◌}
 use mathlib.Core.Path.{◌≡◌, sym, ap, ◌∙◌, subst}
 use mathlib.Core.Logic.{⊎_elim, inl, inr}
-use mathlib.Core.Option.{Option, some}
+use Rattle.std.specs.Prelude.{Option, Some}
 use mathlib.Core.List.{List, [], ◌∷◌, map}
 use native.Mathlib.Omega.{arith}
 use lib.ListN.{length, length-map}
@@ -87,7 +87,7 @@ module _ (values : List ℕ) (p : Place) (inside : p.start + p.length ≤ length
 pub accessor_shows :
     (tag : ℕ) (values : List ℕ) (u : Table) (count : ℕ) (p : Place) (a : Address) (t : Table)
     → Octets values
-    → find_param values u count tag ≡ accepted (some p)
+    → find_param values u count tag ≡ accepted (Some p)
     → read_address built_in (valued values p).value ≡ accepted a
     → Shows values a t (address_found tag values (find_param values u count tag) t)
 accessor_shows tag values u count p a t o f e =

@@ -3,7 +3,7 @@ use Prim.Native.Nat.{ℕ}
 use mathlib.Core.Path.{◌≡◌, refl, sym, ap, ◌∙◌}
 use mathlib.Core.Bool.{Bool, true, false}
 use mathlib.Core.Logic.{⊎_elim}
-use mathlib.Core.Option.{Option, none, some}
+use Rattle.std.specs.Prelude.{Option, None, Some}
 use mathlib.Core.List.{List, [], ◌∷◌, ◌++◌, map}
 use native.Mathlib.Omega.{arith}
 use lib.Dec.{eqb}
@@ -60,7 +60,7 @@ listed-params xs m t r e a =
 
 -- The first of a list's parameters with a tag, read.
 abbrev pub read_first : {A : Type 0} → (List ℕ → Option A) → (tag : ℕ) → List Param → Option A
-read_first read tag [] = none
+read_first read tag [] = None
 read_first read tag (p ∷ ps) = pick (eqb p.tag tag) (read p.value) (read_first read tag ps)
 
 row_first : {A : Type 0} (read : List ℕ → Option A) (tag : ℕ) (values : List ℕ) (ps : List Place) → read_at read values (first_with tag ps) ≡ read_first read tag (map (valued values) ps)
@@ -70,7 +70,7 @@ row_first {A} read tag values (p ∷ ps) = go (eqb p.tag tag) (row_first read ta
     go :
         (b : Bool)
         → read_at read values (first_with tag ps) ≡ read_first read tag (map (valued values) ps)
-        → read_at read values (pick b (some p) (first_with tag ps)) ≡ pick b (read (valued values p).value) (read_first read tag (map (valued values) ps))
+        → read_at read values (pick b (Some p) (first_with tag ps)) ≡ pick b (read (valued values p).value) (read_first read tag (map (valued values) ps))
     go true e = refl
     go false e = e
 
@@ -87,16 +87,16 @@ first_of read tag values t count ps e =
     ∙ ap accepted (row_first read tag values rs ∙ ap (read_first read tag) same)
 
 -- What a first parameter shows is its value.
-shown-value : (values : List ℕ) (o : Outcome (Option Place)) (v : List ℕ) → mapped (read_at some values) o ≡ accepted (some v) → shown values o ≡ v
-shown-value values (accepted (some p)) v e = cc
-shown-value values (accepted none) v e = let z : ◌≡◌ {A = ℕ} 0 1 = cc in absurd (omega arith)
+shown-value : (values : List ℕ) (o : Outcome (Option Place)) (v : List ℕ) → mapped (read_at Some values) o ≡ accepted (Some v) → shown values o ≡ v
+shown-value values (accepted (Some p)) v e = cc
+shown-value values (accepted None) v e = let z : ◌≡◌ {A = ℕ} 0 1 = cc in absurd (omega arith)
 shown-value values (refused n vs) v e = let z : ◌≡◌ {A = ℕ} 0 1 = cc in absurd (omega arith)
 
 -- An address that the first parameter with a tag reads as is what the accessor shows.
 shown-address :
     (tag : ℕ) (values : List ℕ) (u : Table) (count : ℕ) (a : Address) (held : Table)
     → Octets values
-    → first_read (λ v. some (read_address built_in v)) tag values u count ≡ accepted (some (accepted a))
+    → first_read (λ v. Some (read_address built_in v)) tag values u count ≡ accepted (Some (accepted a))
     → Shows values a held (address_found tag values (find_param values u count tag) held)
 unfolding first_read
 shown-address tag values u count a held o e = go (find_param values u count tag) refl e
@@ -104,10 +104,10 @@ shown-address tag values u count a held o e = go (find_param values u count tag)
     go :
         (f : Outcome (Option Place))
         → find_param values u count tag ≡ f
-        → mapped (read_at (λ v. some (read_address built_in v)) values) f ≡ accepted (some (accepted a))
+        → mapped (read_at (λ v. Some (read_address built_in v)) values) f ≡ accepted (Some (accepted a))
         → Shows values a held (address_found tag values (find_param values u count tag) held)
-    go (accepted (some p)) h e = accessor_shows tag values u count p a held o h (cc)
-    go (accepted none) h e = let z : ◌≡◌ {A = ℕ} 0 1 = cc in absurd (omega arith)
+    go (accepted (Some p)) h e = accessor_shows tag values u count p a held o h (cc)
+    go (accepted None) h e = let z : ◌≡◌ {A = ℕ} 0 1 = cc in absurd (omega arith)
     go (refused n vs) h e = let z : ◌≡◌ {A = ℕ} 0 1 = cc in absurd (omega arith)
 
 module _ (context class sequence : ℕ) (has_hop : Bool) (hop : ℕ) (octets : List ℕ) where
@@ -122,20 +122,20 @@ module _ (context class sequence : ℕ) (has_hop : Bool) (hop : ℕ) (octets : L
       → CldtBack context class s d sequence has_hop hop octets values t count
   unfolding first_read
   named s d values t count e = record {
-    context_back = first_of (of_four four_in) 0x0006 values t count (params s d) e ∙ ap (λ (n : ℕ). accepted (some n)) (four_back context);
+    context_back = first_of (of_four four_in) 0x0006 values t count (params s d) e ∙ ap (λ (n : ℕ). accepted (Some n)) (four_back context);
     class_back = first_of (of_four fourth) 0x0115 values t count (params s d) e;
-    source_back = first_of some 0x0102 values t count (params s d) e;
-    destination_back = first_of some 0x0103 values t count (params s d) e;
-    sequence_back = first_of (of_four four_in) 0x0116 values t count (params s d) e ∙ ap (λ (n : ℕ). accepted (some n)) (four_back sequence);
+    source_back = first_of Some 0x0102 values t count (params s d) e;
+    destination_back = first_of Some 0x0103 values t count (params s d) e;
+    sequence_back = first_of (of_four four_in) 0x0116 values t count (params s d) e ∙ ap (λ (n : ℕ). accepted (Some n)) (four_back sequence);
     hop_back = first_of (of_four fourth) 0x0101 values t count (params s d) e ∙ ap accepted (hops has_hop);
-    data_back = shown-value values (find_param values t count 0x010B) octets (first_of some 0x010B values t count (params s d) e ∙ ap accepted (datas has_hop));
+    data_back = shown-value values (find_param values t count 0x010B) octets (first_of Some 0x010B values t count (params s d) e ∙ ap accepted (datas has_hop));
   }
     where
       hops : (b : Bool) → read_first (of_four fourth) 0x0101 (given b (octet 0x0101 hop) ++ param 0x010B octets ∷ []) ≡ flagged b hop
       hops true = refl
       hops false = refl
 
-      datas : (b : Bool) → read_first some 0x010B (given b (octet 0x0101 hop) ++ param 0x010B octets ∷ []) ≡ some octets
+      datas : (b : Bool) → read_first Some 0x010B (given b (octet 0x0101 hop) ++ param 0x010B octets ∷ []) ≡ Some octets
       datas true = refl
       datas false = refl
 
@@ -167,16 +167,16 @@ module _ (context class sequence : ℕ) (has_hop : Bool) (hop : ℕ) (octets : L
       → records dv dt destination.other_count ≡ accepted to
       → All Other so
       → All Other to
-      → (first_read (λ v. some (read_address built_in v)) 0x0102 os (list_message os t).table r.count ≡ accepted (some (accepted (fold_address (address_of source so)))))
-      × (first_read (λ v. some (read_address built_in v)) 0x0103 os (list_message os t).table r.count ≡ accepted (some (accepted (fold_address (address_of destination to)))))
+      → (first_read (λ v. Some (read_address built_in v)) 0x0102 os (list_message os t).table r.count ≡ accepted (Some (accepted (fold_address (address_of source so)))))
+      × (first_read (λ v. Some (read_address built_in v)) 0x0103 os (list_message os t).table r.count ≡ accepted (Some (accepted (fold_address (address_of destination to)))))
   addresses_read source sv st destination dv dt os t r e a so to hs hd ks kd =
       let k = addressed_reads M.Cldt params (encode_address_as 0x0102 source sv st) (encode_address_as 0x0103 destination dv dt) os e in
       let ps = params k.source k.destination in
       let rs = listed-params os _ t r k.reads a in (
-        first_of (λ v. some (read_address built_in v)) 0x0102 os (list_message os t).table r.count ps rs
-            ∙ ap (λ (o : Outcome Address). accepted (some o)) (given_back 0x0102 source sv st so k.source hs ks k.source_written),
-        first_of (λ v. some (read_address built_in v)) 0x0103 os (list_message os t).table r.count ps rs
-            ∙ ap (λ (o : Outcome Address). accepted (some o)) (given_back 0x0103 destination dv dt to k.destination hd kd k.destination-written),
+        first_of (λ v. Some (read_address built_in v)) 0x0102 os (list_message os t).table r.count ps rs
+            ∙ ap (λ (o : Outcome Address). accepted (Some o)) (given_back 0x0102 source sv st so k.source hs ks k.source_written),
+        first_of (λ v. Some (read_address built_in v)) 0x0103 os (list_message os t).table r.count ps rs
+            ∙ ap (λ (o : Outcome Address). accepted (Some o)) (given_back 0x0103 destination dv dt to k.destination hd kd k.destination-written),
       )
 
   -- The two address accessors give the addresses back, into any tables: the records stand for those that were given.

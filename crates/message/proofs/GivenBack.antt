@@ -3,8 +3,7 @@
 use Prim.Native.Nat.{ℕ, ◌≤◌}
 use mathlib.Core.Path.{◌≡◌, refl, sym, ap, ◌∙◌}
 use mathlib.Core.Bool.{Bool, true, false}
-use mathlib.Core.Option
-use mathlib.Core.Option.{Option, none, some}
+use Rattle.std.specs.Prelude.{Option, None, Some, option_map}
 use mathlib.Core.List.{List, [], ◌∷◌, ◌++◌, map}
 use native.Mathlib.Omega.{arith}
 use borrow.Author.Tests.{le-leb, ne_eqb}
@@ -25,12 +24,12 @@ use Rattle.message.specs.Back.{fold_title, fold_address, Other}
 use Rattle.address.proofs.Rewriting.{address_octets, written_inv, octets-read}
 
 -- Where there are no capitals, nothing changes.
-pub folded_same : (a : Address) → ((t : Title) → a.title ≡ some t → map fold t.digits ≡ t.digits) → fold_address a ≡ a
+pub folded_same : (a : Address) → ((t : Title) → a.title ≡ Some t → map fold t.digits ≡ t.digits) → fold_address a ≡ a
 folded_same a h = ap (λ (o : Option Title). record { routing = a.routing; gt = a.gt; pc = a.pc; ssn = a.ssn; title = o; code = a.code; sub = a.sub; others = a.others }) (go a.title refl)
   where
-    go : (o : Option Title) → a.title ≡ o → Option.map fold_title o ≡ o
-    go none e = refl
-    go (some t) e = ap (λ (ds : List ℕ). some (record { gti = t.gti; tt = t.tt; np = t.np; noa = t.noa; digits = ds })) (h t e)
+    go : (o : Option Title) → a.title ≡ o → option_map fold_title o ≡ o
+    go None e = refl
+    go (Some t) e = ap (λ (ds : List ℕ). Some (record { gti = t.gti; tt = t.tt; np = t.np; noa = t.noa; digits = ds })) (h t e)
 
 abbrev Kept : Piece → Type 0
 Kept (title t) = Unit {0}
@@ -88,16 +87,16 @@ module _ (a : Address) where
       (all_append Kept (present code a.code) _ (codes a.code) (all_append Kept (present sub a.sub) _ (subs a.sub) (kept-others a.others h)))
     where
       titles : (o : Option Title) → All Kept (present title o)
-      titles none = tt
-      titles (some t) = (tt, tt)
+      titles None = tt
+      titles (Some t) = (tt, tt)
 
       codes : (o : Option ℕ) → All Kept (present code o)
-      codes none = tt
-      codes (some n) = (tt, tt)
+      codes None = tt
+      codes (Some n) = (tt, tt)
 
       subs : (o : Option ℕ) → All Kept (present sub o)
-      subs none = tt
-      subs (some n) = (tt, tt)
+      subs None = tt
+      subs (Some n) = (tt, tt)
 
   pieces_folded : map fold_piece (pieces a) ≡ pieces (fold_address a)
   unfolding pieces
@@ -106,15 +105,15 @@ module _ (a : Address) where
       go :
           (t : Option Title) (c s : Option ℕ)
           → map fold_piece (present title t ++ (present code c ++ (present sub s ++ map other a.others)))
-          ≡ present title (Option.map fold_title t) ++ (present code c ++ (present sub s ++ map other a.others))
-      go none none none = fold-others a.others
-      go none none (some s) = ap (λ (l : List Piece). sub s ∷ l) (fold-others a.others)
-      go none (some c) none = ap (λ (l : List Piece). code c ∷ l) (fold-others a.others)
-      go none (some c) (some s) = ap (λ (l : List Piece). code c ∷ sub s ∷ l) (fold-others a.others)
-      go (some t) none none = ap (λ (l : List Piece). title (fold_title t) ∷ l) (fold-others a.others)
-      go (some t) none (some s) = ap (λ (l : List Piece). title (fold_title t) ∷ sub s ∷ l) (fold-others a.others)
-      go (some t) (some c) none = ap (λ (l : List Piece). title (fold_title t) ∷ code c ∷ l) (fold-others a.others)
-      go (some t) (some c) (some s) = ap (λ (l : List Piece). title (fold_title t) ∷ code c ∷ sub s ∷ l) (fold-others a.others)
+          ≡ present title (option_map fold_title t) ++ (present code c ++ (present sub s ++ map other a.others))
+      go None None None = fold-others a.others
+      go None None (Some s) = ap (λ (l : List Piece). sub s ∷ l) (fold-others a.others)
+      go None (Some c) None = ap (λ (l : List Piece). code c ∷ l) (fold-others a.others)
+      go None (Some c) (Some s) = ap (λ (l : List Piece). code c ∷ sub s ∷ l) (fold-others a.others)
+      go (Some t) None None = ap (λ (l : List Piece). title (fold_title t) ∷ l) (fold-others a.others)
+      go (Some t) None (Some s) = ap (λ (l : List Piece). title (fold_title t) ∷ sub s ∷ l) (fold-others a.others)
+      go (Some t) (Some c) None = ap (λ (l : List Piece). title (fold_title t) ∷ code c ∷ l) (fold-others a.others)
+      go (Some t) (Some c) (Some s) = ap (λ (l : List Piece). title (fold_title t) ∷ code c ∷ sub s ∷ l) (fold-others a.others)
 
   -- An address that was written is read back.
   pub address-written_back : (tag : ℕ) (w : List ℕ) → a.routing ≤ 4 → All Other a.others → write_address built_in tag a ≡ accepted w → read_address built_in w ≡ accepted (fold_address a)

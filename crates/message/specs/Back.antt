@@ -1,7 +1,6 @@
 -- What comes back through reading and the accessors of what was written.
 use Rattle.std.specs.Prelude.{ℕ, ◌≡◌, Bool, ◌⊎◌, List, [], ◌∷◌, map, length}
-use Rattle.std.proofs.Math.Option
-use Rattle.std.proofs.Math.Option.{Option, some}
+use Rattle.std.specs.Prelude.{Option, Some, option_map}
 use Rattle.bcd.specs.Outcome.{Outcome, accepted, refused, after}
 use Rattle.bcd.specs.Digits.{fold, built_in}
 use Rattle.parameter.specs.Parameter.{Param}
@@ -28,7 +27,7 @@ fold_address a = record {
   gt = a.gt;
   pc = a.pc;
   ssn = a.ssn;
-  title = Option.map fold_title a.title;
+  title = option_map fold_title a.title;
   code = a.code;
   sub = a.sub;
   others = a.others;
@@ -50,11 +49,11 @@ pub record ReadsWith (m : MessageType) (ps : (source destination : List ℕ) →
 
 -- The arguments of a CLDT, by the accessors' definitions; s and d are the octets of its addresses.
 pub record CldtBack (context class : ℕ) (s d : List ℕ) (sequence : ℕ) (has_hop : Bool) (hop : ℕ) (octets values : List ℕ) (t : Table) (count : ℕ) : Type 0 where
-  pub context_back : routing_context values t count ≡ accepted (some context)
-  pub class_back : protocol_class values t count ≡ accepted (some class)
-  pub source_back : first_read some 0x0102 values t count ≡ accepted (some s)
-  pub destination_back : first_read some 0x0103 values t count ≡ accepted (some d)
-  pub sequence_back : sequence_control values t count ≡ accepted (some sequence)
+  pub context_back : routing_context values t count ≡ accepted (Some context)
+  pub class_back : protocol_class values t count ≡ accepted (Some class)
+  pub source_back : first_read Some 0x0102 values t count ≡ accepted (Some s)
+  pub destination_back : first_read Some 0x0103 values t count ≡ accepted (Some d)
+  pub sequence_back : sequence_control values t count ≡ accepted (Some sequence)
   pub hop_back : ss7_hop_count values t count ≡ accepted (flagged has_hop hop)
   pub data_back : data_part values t count ≡ octets
 
@@ -67,5 +66,5 @@ Shows values a held l = Stands values a l ⊎ (l ≡ listed (refused 13 (length 
 -- and written again.
 pub record Back (values : List ℕ) (found : Outcome (Option Place)) (held : Table) (r : SuaAddress) : Type 0 where
   pub place : Place
-  pub there : found ≡ accepted (some place)
+  pub there : found ≡ accepted (Some place)
   pub written : encode_address r values held ≡ after (read_address built_in (valued values place).value) (write_address built_in 0)

@@ -2,7 +2,7 @@
 use Prim.Native.Nat.{ℕ, ◌+◌, ◌-◌, ◌*◌, ◌/◌, ◌≤◌, ◌<◌}
 use mathlib.Core.Path.{◌≡◌, refl, sym, ap, ◌∙◌}
 use mathlib.Core.Bool.{Bool, true, false}
-use mathlib.Core.Option.{none, some}
+use Rattle.std.specs.Prelude.{None, Some}
 use mathlib.Core.List.{List, [], ◌∷◌, ◌++◌, append_assoc}
 use native.Mathlib.Omega.{arith}
 use borrow.Author.Tests.{le-leb, lt-leb, leb-true}
@@ -40,11 +40,11 @@ pub encode_beyond : (p : Param) → most_value < length p.value → encode_param
 unfolding encode_param
 encode_beyond p h = rw (lt-leb (length p.value) most_value h)
 
-pub number_short : (v : List ℕ) → length v < 4 → number_in v ≡ none
+pub number_short : (v : List ℕ) → length v < 4 → number_in v ≡ None
 unfolding number_in
 number_short v h = rw (lt-leb 4 (length v) h)
 
-pub number-four : (v : List ℕ) (high low : ℕ) → 4 ≤ length v → high ≡ two_at v 0 → low ≡ two_at v 2 → some (high * 65536 + low) ≡ number_in v
+pub number-four : (v : List ℕ) (high low : ℕ) → 4 ≤ length v → high ≡ two_at v 0 → low ≡ two_at v 2 → Some (high * 65536 + low) ≡ number_in v
 unfolding number_in
 number-four v high low h a b = rw (le-leb 4 (length v) h, a, b)
 

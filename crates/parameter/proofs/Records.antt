@@ -2,7 +2,7 @@
 use Prim.Native.Nat.{ℕ, zero, suc, ◌+◌, ◌≤◌, ◌<◌, min}
 use mathlib.Core.Path.{◌≡◌, refl, sym, ap, ap₂, ◌∙◌}
 use mathlib.Core.Bool.{Bool, true, false}
-use mathlib.Core.Option.{none, some}
+use Rattle.std.specs.Prelude.{None, Some}
 use mathlib.Core.List.{List, [], ◌∷◌, ◌++◌, map, map-append}
 use native.Mathlib.Omega.{arith}
 use native.Mathlib.Numerals.{add-one}
@@ -222,26 +222,26 @@ module _ {values ts ss ls : List ℕ} {count : ℕ} (k : Held values ts ss ls co
         ap (λ (p : Param). length p.value) held-param
         ∙ value-length values (record { tag = get_or ts i 0; start = get_or ss i 0; length = get_or ls i 0 }) held_inside
 
-first-append : (tag : ℕ) (ps qs : List Place) → first_with tag ps ≡ none → first_with tag (ps ++ qs) ≡ first_with tag qs
+first-append : (tag : ℕ) (ps qs : List Place) → first_with tag ps ≡ None → first_with tag (ps ++ qs) ≡ first_with tag qs
 first-append tag [] qs e = refl
 first-append tag (p ∷ ps) qs e = go (eqb p.tag tag) refl (first-append tag ps qs) e
   where
     go :
         (t : Bool)
         → eqb p.tag tag ≡ t
-        → (first_with tag ps ≡ none → first_with tag (ps ++ qs) ≡ first_with tag qs)
-        → pick t (some p) (first_with tag ps) ≡ none
-        → pick t (some p) (first_with tag (ps ++ qs)) ≡ first_with tag qs
+        → (first_with tag ps ≡ None → first_with tag (ps ++ qs) ≡ first_with tag qs)
+        → pick t (Some p) (first_with tag ps) ≡ None
+        → pick t (Some p) (first_with tag (ps ++ qs)) ≡ first_with tag qs
     go true t ih e = let z : ◌≡◌ {A = ℕ} 0 1 = cc in absurd (omega arith)
     go false t ih e = ih e
 
 -- the first record with a tag, where none of the first i has it
-pub first_more : (tag : ℕ) (ps : List Place) (i : ℕ) → i < length ps → first_with tag (take i ps) ≡ none → ((get_or ps i nowhere).tag ≡ tag → ⊥) → first_with tag (take (i + 1) ps) ≡ none
+pub first_more : (tag : ℕ) (ps : List Place) (i : ℕ) → i < length ps → first_with tag (take i ps) ≡ None → ((get_or ps i nowhere).tag ≡ tag → ⊥) → first_with tag (take (i + 1) ps) ≡ None
 first_more tag ps i h e other =
     let t : take (i + 1) ps ≡ take i ps ++ (get_or ps i nowhere ∷ []) = rw add-one (take-suc ps i nowhere h) in
     ap (first_with tag) t ∙ first-append tag (take i ps) (get_or ps i nowhere ∷ []) e ∙ rw (ne_eqb (get_or ps i nowhere).tag tag other)
 
-pub first_found : (tag : ℕ) (ps : List Place) (i : ℕ) → i < length ps → first_with tag (take i ps) ≡ none → (get_or ps i nowhere).tag ≡ tag → first_with tag ps ≡ some (get_or ps i nowhere)
+pub first_found : (tag : ℕ) (ps : List Place) (i : ℕ) → i < length ps → first_with tag (take i ps) ≡ None → (get_or ps i nowhere).tag ≡ tag → first_with tag ps ≡ Some (get_or ps i nowhere)
 first_found tag ps i h e same =
     ap (first_with tag) (split_at ps i nowhere h)
     ∙ first-append tag (take i ps) (get_or ps i nowhere ∷ drop (suc i) ps) e

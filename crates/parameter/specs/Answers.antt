@@ -1,6 +1,6 @@
 -- Which outcome each answer of the code is (document 01, 'Choosing the form by place', last paragraph).
 use Rattle.std.specs.Prelude.{ℕ}
-use Rattle.std.proofs.Math.Option.{Option, none, some}
+use Rattle.std.specs.Prelude.{Option, None, Some}
 use Rattle.bcd.specs.Outcome.{Outcome, accepted}
 use Rattle.bcd.specs.Answers.{refusal_of}
 use Rattle.parameter.specs.Walk.{Walked, ended, found, Taken}
@@ -24,11 +24,11 @@ one_of (O.Parameter p n) = accepted (record { place = p; consumed = n })
 one_of (O.Refused r) = refusal_of r
 
 abbrev pub number_of : Number → Outcome (Option ℕ)
-number_of (N.Value n) = accepted (some n)
-number_of N.None = accepted none
+number_of (N.Value n) = accepted (Some n)
+number_of N.None = accepted None
 number_of (N.Refused r) = refusal_of r
 
 abbrev pub found_of : Found → Outcome (Option Place)
-found_of (F.At p) = accepted (some p)
-found_of F.None = accepted none
+found_of (F.At p) = accepted (Some p)
+found_of F.None = accepted None
 found_of (F.Refused r) = refusal_of r

@@ -1,6 +1,6 @@
 -- One parameter on the wire, and a run of them (RFC 3868, 3.1.5).
 use Rattle.std.specs.Prelude.{ℕ, ◌+◌, ◌-◌, ◌*◌, ◌/◌, ◌%◌, ◌≤◌, ◌<◌, List, [], ◌∷◌, ◌++◌, length, get_or, take, drop, replicate, leb}
-use Rattle.std.proofs.Math.Option.{Option, none, some}
+use Rattle.std.specs.Prelude.{Option, None, Some}
 use Rattle.bcd.specs.Outcome.{Outcome, accepted, pick, demand, after, each, Octets, most, fit64}
 
 -- A parameter is a tag and a value (RFC 3868, 3.1.5).
@@ -74,7 +74,7 @@ frame_param tag n held =
 
 -- A value as a number: its first four octets; none under four (document 01, 'Order').
 unfoldable pub number_in : List ℕ → Option ℕ
-number_in v = pick (leb 4 (length v)) (some (four_in v)) none
+number_in v = pick (leb 4 (length v)) (Some (four_in v)) None
 
 -- Octets written are at most 1,048,576, else 12.
 abbrev pub writable : List ℕ → Outcome (List ℕ)

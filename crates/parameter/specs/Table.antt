@@ -1,6 +1,6 @@
 -- Records in three lent slices of numbers: tag, start and length (document 01, 'Rust forms that cannot stay').
 use Rattle.std.specs.Prelude.{ℕ, ◌+◌, min, List, [], ◌∷◌, ◌++◌, map, length, take, drop, leb, eqb}
-use Rattle.std.proofs.Math.Option.{Option, none, some}
+use Rattle.std.specs.Prelude.{Option, None, Some}
 use Rattle.bcd.specs.Outcome.{Outcome, accepted, refused, pick, after, demand, each}
 use Rattle.parameter.specs.Parameter.{Param}
 use Rattle.parameter.specs.Walk.{valued}
@@ -65,8 +65,8 @@ records values t count =
 
 -- The first record with a tag (document 01, module 2).
 abbrev pub first_with : ℕ → List Place → Option Place
-first_with tag [] = none
-first_with tag (p ∷ ps) = pick (eqb p.tag tag) (some p) (first_with tag ps)
+first_with tag [] = None
+first_with tag (p ∷ ps) = pick (eqb p.tag tag) (Some p) (first_with tag ps)
 
 -- Finding by tag: 15 looks at every record (document 01, 'Order'; docs/DECISIONS.md, point 6).
 unfoldable pub find_param : List ℕ → Table → (count tag : ℕ) → Outcome (Option Place)

@@ -2,7 +2,7 @@
 use Prim.Native.Nat.{ℕ, ◌≤◌, ◌<◌}
 use mathlib.Core.Path.{◌≡◌, refl, sym, ap, ◌∙◌, subst}
 use mathlib.Core.Logic.{◌↔◌}
-use mathlib.Core.Option.{Option, none, some}
+use Rattle.std.specs.Prelude.{Option, None, Some}
 use mathlib.Core.List.{List, [], ◌∷◌, ◌++◌}
 use native.Mathlib.Omega.{arith}
 use lib.Dec.{leb}
@@ -52,12 +52,12 @@ held t c =
     }
 
 titles-held : (o : Option Title) → All (Came built_in) (present title o) → HeldIn o
-titles-held none c = tt
-titles-held (some t) c = held t c.0
+titles-held None c = tt
+titles-held (Some t) c = held t c.0
 
 subs-held : (o : Option ℕ) → All (Came built_in) (present sub o) → Octets (sub_octets o)
-subs-held none c = tt
-subs-held (some n) c = (omega (arith, came_sub c.0.is, octets_at c.0.param.value 3 c.0.fits.octets), tt)
+subs-held None c = tt
+subs-held (Some n) c = (omega (arith, came_sub c.0.is, octets_at c.0.param.value 3 c.0.fits.octets), tt)
 
 carried : (a : Address) → All (Came built_in) (pieces a) → Carried a
 unfolding pieces

@@ -3,7 +3,7 @@ use Prim.Native.Nat.{ℕ, ◌≤◌}
 use mathlib.Core.Path.{◌≡◌, refl, sym, ap, ◌∙◌, subst}
 use mathlib.Core.Bool.{Bool, true, false}
 use mathlib.Core.Logic.{◌⊎◌, ⊎_elim, ◌↔◌}
-use mathlib.Core.Option.{Option, none, some}
+use Rattle.std.specs.Prelude.{Option, None, Some}
 use mathlib.Core.List.{List, []}
 use borrow.Author.Tests.{le-leb, leb-true, eq-eqb}
 use Rattle.bcd.specs.Outcome.{accepted, refused, mapped, Octets}
@@ -21,22 +21,22 @@ use Rattle.sccp.proofs.Back.{address_carried, to_read}
 
 -- The tests are the conditions, part by part.
 titles-to : (o : Option Title) → absent_or title_converts o ≡ true → Where TitleConverts o
-titles-to none e = tt
-titles-to (some t) e = title_converts_lem t e
+titles-to None e = tt
+titles-to (Some t) e = title_converts_lem t e
 
 titles_from : (o : Option Title) → Where TitleConverts o → absent_or title_converts o ≡ true
-titles_from none h = refl
-titles_from (some t) h =
+titles_from None h = refl
+titles_from (Some t) h =
     let k = digits-known t.digits h.digits in
     rw (eq-eqb t.gti 4 h.indicator, le-leb t.np 15 h.plan, le-leb t.noa 127 h.nature, k)
 
 codes-to : (o : Option ℕ) → absent_or code_small o ≡ true → Where (λ (n : ℕ). n ≤ 16383) o
-codes-to none e = tt
-codes-to (some n) e = leb-true n 16383 e
+codes-to None e = tt
+codes-to (Some n) e = leb-true n 16383 e
 
 codes_from : (o : Option ℕ) → Where (λ (n : ℕ). n ≤ 16383) o → absent_or code_small o ≡ true
-codes_from none h = refl
-codes_from (some n) h = le-leb n 16383 h
+codes_from None h = refl
+codes_from (Some n) h = le-leb n 16383 h
 
 routes_from : (n : ℕ) → (n ≡ 1) ⊎ (n ≡ 2) → routes n ≡ true
 routes_from n h = ⊎_elim (λ e. rw e) (λ e. rw e) h
@@ -71,8 +71,8 @@ converts_tells a = (to, from)
 
 -- The title of an address that converts is written.
 title_written : (o : Option Title) → HeldIn o → absent_or title_converts o ≡ true → (os : List ℕ) × (title_octets o ≡ accepted os)
-title_written none h c = (_, refl)
-title_written (some t) h c =
+title_written None h c = (_, refl)
+title_written (Some t) h c =
     let k = subst KnownDigits h.digits (title_converts_lem t c).digits in
     let w = ap (write_digits built_in) h.digits ∙ read-written h.octets h.count h.all h.few k in
     (_, ap (mapped {B = List ℕ} _) w)

@@ -3,7 +3,7 @@ use Prim.Native.Nat.{ℕ, zero, suc, ◌+◌, ◌*◌, ◌/◌, ◌%◌, ◌≤�
 use mathlib.Core.Path.{◌≡◌, refl, sym, ap, ap₂, ◌∙◌, subst}
 use mathlib.Core.Bool.{Bool, true, false, not}
 use mathlib.Core.Logic.{◌⊎◌, inl, inr, ⊎_elim}
-use mathlib.Core.Option.{Option, none, some}
+use Rattle.std.specs.Prelude.{Option, None, Some}
 use mathlib.Core.List.{List, [], ◌∷◌, ◌++◌}
 use native.Mathlib.Omega.{arith}
 use borrow.Author.Tests.{leb-true, eqb-true}
@@ -256,10 +256,10 @@ pub whole : (a : Address) → Passes a → with_parts a.routing a.code a.sub a.t
 whole a p = rw (← p.gt, ← p.pc, ← p.ssn, ← p.others)
 
 party_length : (code sub : Option ℕ) (ps : List ℕ) → length ps ≤ 131 → length (code_octets code ++ (sub_octets sub ++ ps)) ≤ 134
-party_length none none ps h = omega arith
-party_length none (some n) ps h = omega arith
-party_length (some c) none ps h = omega arith
-party_length (some c) (some n) ps h = omega arith
+party_length None None ps h = omega arith
+party_length None (Some n) ps h = omega arith
+party_length (Some c) None ps h = omega arith
+party_length (Some c) (Some n) ps h = omega arith
 
 pub record PartyBack (a : Address) (os : List ℕ) : Type 0 where
   pub reads : sccp_in os ≡ accepted a

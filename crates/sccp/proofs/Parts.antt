@@ -4,7 +4,7 @@ use Prim.Native.Nat.{ℕ, ◌+◌, ◌-◌, ◌*◌, ◌/◌, ◌%◌, ◌≤◌
 use mathlib.Core.Path.{◌≡◌, refl, sym, ap, ap₂, subst}
 use mathlib.Core.Bool.{Bool, true, false}
 use mathlib.Core.Logic.{⊎_elim}
-use mathlib.Core.Option.{Option, none, some}
+use Rattle.std.specs.Prelude.{Option, None, Some}
 use mathlib.Core.List.{List, [], ◌∷◌, ◌++◌}
 use native.Mathlib.Omega.{arith}
 use borrow.Author.Tests.{le-leb, leb-true, eqb-true}
@@ -57,15 +57,15 @@ pub code_back :
     (code : Option ℕ) (rest : List ℕ)
     → absent_or code_small code ≡ true
     → code_in (there code) (code_octets code ++ rest) ≡ accepted (code, rest)
-code_back none rest s = refl
-code_back (some n) rest s =
+code_back None rest s = refl
+code_back (Some n) rest s =
     let high : n / 256 ≤ 63 = omega (arith, leb-true n 16383 s) in
     let same : n / 256 * 256 + n % 256 ≡ n = omega arith in
     rw (le-leb (n / 256) 63 high, same)
 
 pub code-octets : (code : Option ℕ) (rest : List ℕ) → absent_or code_small code ≡ true → Octets rest → Octets (code_octets code ++ rest)
-code-octets none rest s o = o
-code-octets (some n) rest s o = (omega arith, (omega (arith, leb-true n 16383 s), o))
+code-octets None rest s o = o
+code-octets (Some n) rest s o = (omega arith, (omega (arith, leb-true n 16383 s), o))
 
 -- What an SSN that was read tells, and the octets behind it.
 pub record HasSub (b : Bool) (xs : List ℕ) (sub : Option ℕ) (rest : List ℕ) : Type 0 where
@@ -84,8 +84,8 @@ sub_inv true (n ∷ xs) s o e =
     (record { present = refl; octets = refl; small = (o.0, tt); behind = o.1 })
 
 pub sub_back : (sub : Option ℕ) (rest : List ℕ) → sub_in (there sub) (sub_octets sub ++ rest) ≡ accepted (sub, rest)
-sub_back none rest = refl
-sub_back (some n) rest = refl
+sub_back None rest = refl
+sub_back (Some n) rest = refl
 
 -- The test of a title is the conditions on it.
 pub title_converts_lem : (t : Title) → title_converts t ≡ true → TitleConverts t
@@ -110,8 +110,8 @@ pub record Held (t : Title) : Type 0 where
   pub digits : t.digits ≡ digits_in built_in octets count
 
 abbrev pub HeldIn : Option Title → Type 0
-HeldIn none = Unit {0}
-HeldIn (some t) = Held t
+HeldIn None = Unit {0}
+HeldIn (Some t) = Held t
 
 -- What a title that was read tells.
 pub record HasTitle (i : ℕ) (xs : List ℕ) (title : Option Title) : Type 0 where
@@ -125,7 +125,7 @@ title_of_lem :
     → Octets (type ∷ plan ∷ nature ∷ xs)
     → nature ≤ 127
     → digits_of (plan % 16) xs ≡ accepted ds
-    → HasTitle 4 (type ∷ plan ∷ nature ∷ xs) (some (record { gti = 4; tt = type; np = plan / 16; noa = nature; digits = ds }))
+    → HasTitle 4 (type ∷ plan ∷ nature ∷ xs) (Some (record { gti = 4; tt = type; np = plan / 16; noa = nature; digits = ds }))
 title_of_lem type plan nature xs ds o low e =
     let b = digits_back (plan % 16) xs ds o.1.1.1 e in
     let h = digits_inv (plan % 16) xs ds e in
@@ -172,15 +172,15 @@ pub title_back :
     → absent_or title_converts title ≡ true
     → title_octets title ≡ accepted os
     → TitleBack title os
-title_back none os h c e = subst (TitleBack none) (accepted_inj e) (record { reads = refl; octets = tt; short = omega arith })
-title_back (some t) os h c e =
+title_back None os h c e = subst (TitleBack None) (accepted_inj e) (record { reads = refl; octets = tt; short = omega arith })
+title_back (Some t) os h c e =
     let (ps, hw, same) = mapped_inv {B = List ℕ} _ (write_digits built_in t.digits) e in
     let k = title_converts_lem t c in
     let d = digit-octets built_in built_in_lawful t.digits ps hw in
     let b = digits-read_back h.octets h.count t.digits ps h.all h.digits hw h.few in
     let scheme : (t.np * 16 + (2 - length t.digits % 2)) % 16 ≡ 2 - length t.digits % 2 = omega arith in
     let plan : (t.np * 16 + (2 - length t.digits % 2)) / 16 ≡ t.np = omega arith in
-    subst (TitleBack (some t)) same (record {
+    subst (TitleBack (Some t)) same (record {
       reads = rw (le-leb t.noa 127 k.nature, scheme, plan, b, ← k.indicator);
       octets = (h.type, (omega (arith, k.plan), (omega (arith, k.nature), d.octets)));
       short = omega (arith, d.count, ap length h.digits, read_at_most built_in h.octets h.count h.few);

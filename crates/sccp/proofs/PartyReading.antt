@@ -3,7 +3,7 @@ use Prim.Native.Nat.{ℕ, ◌+◌, ◌-◌, ◌*◌, ◌/◌, ◌%◌, ◌≤◌
 use mathlib.Core.Path.{◌≡◌, refl, sym, ap, ◌∙◌, subst}
 use mathlib.Core.Bool.{Bool, true, false}
 use mathlib.Core.Logic.{◌⊎◌, inl, inr, ⊎_elim}
-use mathlib.Core.Option.{none, some}
+use Rattle.std.specs.Prelude.{None, Some}
 use mathlib.Core.List.{List, [], ◌∷◌}
 use native.Mathlib.Omega.{arith}
 use borrow.Author.Tests.{le-leb, eqb-true, eqb-false}
@@ -62,7 +62,7 @@ pub record IsTitle (ys : List ℕ) : Type 0 where
 title_read :
     (ys : List ℕ)
     → (t : IsTitle ys)
-    → title_in ys ≡ mapped (λ ds. some (record { gti = 4; tt = get_or ys 0 0; np = get_or ys 1 0 / 16; noa = get_or ys 2 0; digits = ds })) (digits_of (get_or ys 1 0 % 16) (drop 3 ys))
+    → title_in ys ≡ mapped (λ ds. Some (record { gti = 4; tt = get_or ys 0 0; np = get_or ys 1 0 / 16; noa = get_or ys 2 0; digits = ds })) (digits_of (get_or ys 1 0 % 16) (drop 3 ys))
 title_read [] t = absurd (omega (arith, t.long))
 title_read (a ∷ []) t = absurd (omega (arith, t.long))
 title_read (a ∷ b ∷ []) t = absurd (omega (arith, t.long))
@@ -119,11 +119,11 @@ module _ (xs : List ℕ) (o : Octets xs) (at : ℕ) (inside : at ≤ length xs) 
             (subst (Known (drop 3 (drop at xs))) n t.digits.known);
       }
 
-  pub title_from_lem : title_in (drop at xs) ≡ accepted (some (title_from xs (title_numbers xs at)))
+  pub title_from_lem : title_in (drop at xs) ≡ accepted (Some (title_from xs (title_numbers xs at)))
   title_from_lem =
       title_read (drop at xs) t
       ∙ rw (t.digits.read, first-octet, octet 1, octet 2, digits-behind)
-      (ap (λ (n : ℕ). accepted (some (record { gti = 4; tt = get_or xs at 0; np = get_or xs (at + 1) 0 / 16; noa = get_or xs (at + 2) 0; digits = digits_in built_in (drop (at + 3) xs) n }))) count)
+      (ap (λ (n : ℕ). accepted (Some (record { gti = 4; tt = get_or xs at 0; np = get_or xs (at + 1) 0 / 16; noa = get_or xs (at + 2) 0; digits = digits_in built_in (drop (at + 3) xs) n }))) count)
     where
       count : 2 * length (drop (at + 3) xs) - get_or xs (at + 1) 0 % 16 % 2 ≡ 2 * (length xs - (at + 3)) - get_or xs (at + 1) 0 % 2
       count = omega (arith, length-drop (at + 3) xs)
@@ -203,7 +203,7 @@ module _ (xs : List ℕ) (o : Octets xs) (p : IsParty xs) where
       absent : (indicator / 4 % 16 ≡ 0) × (length xs ≡ place) → Holds (bit 16 indicator)
       absent (e, l) =
           let z : indicator / 16 % 2 ≡ 0 = omega (arith, p.low) in
-          let left : nothing_left (drop place xs) ≡ accepted none = let past : length xs ≤ place = omega arith in ap nothing_left (drop_of_length-le xs past) in
+          let left : nothing_left (drop place xs) ≡ accepted None = let past : length xs ≤ place = omega arith in ap nothing_left (drop_of_length-le xs past) in
           rw z (none_sound xs, rw e left, λ t. unlike t refl)
 
       there : (indicator / 4 % 16 ≡ 4) × IsTitle (drop place xs) → Holds (bit 16 indicator)

@@ -2,7 +2,7 @@
 use Prim.Native.Nat.{ℕ, ◌+◌, ◌-◌, ◌*◌, ◌/◌, ◌%◌, ◌≤◌, ◌<◌}
 use mathlib.Core.Path.{◌≡◌, refl, ap, ◌∙◌}
 use mathlib.Core.Bool.{Bool, true, false, ◌&&◌}
-use mathlib.Core.Option.{Option, some}
+use Rattle.std.specs.Prelude.{Option, Some}
 use mathlib.Core.List.{List, [], ◌∷◌}
 use native.Mathlib.Omega.{arith}
 use borrow.Author.Tests.{le-leb, lt-leb, eq-eqb, ne_eqb}
@@ -105,7 +105,7 @@ module _ {A : Type 0} (F : Option ℕ → Option ℕ → List ℕ → Outcome A)
   parts_early true c (x ∷ []) h = refl
   parts_early true true (x ∷ y ∷ []) h = go (leb y 63)
     where
-      go : (t : Bool) → after (demand t 18 [] (accepted (some (y * 256 + x), []))) (λ (code : Option ℕ × List ℕ). after (sub_in true code.1) (λ (sub : Option ℕ × List ℕ). F code.0 sub.0 sub.1)) ≡ refused 18 []
+      go : (t : Bool) → after (demand t 18 [] (accepted (Some (y * 256 + x), []))) (λ (code : Option ℕ × List ℕ). after (sub_in true code.1) (λ (sub : Option ℕ × List ℕ). F code.0 sub.0 sub.1)) ≡ refused 18 []
       go true = refl
       go false = refl
   parts_early true true (x ∷ y ∷ z ∷ ys) h = absurd (omega arith)

@@ -2,7 +2,7 @@
 use Prim.Native.Nat.{ℕ, zero, suc, ◌+◌, ◌-◌, ◌*◌, ◌/◌, ◌%◌, ◌≤◌, ◌<◌, min}
 use mathlib.Core.Path.{◌≡◌, refl, sym, ap, ◌∙◌}
 use mathlib.Core.Bool.{true, false}
-use mathlib.Core.Option
+use Rattle.std.specs.Prelude.{unwrap_or}
 use mathlib.Core.List.{List, [], ◌∷◌, map}
 use native.Mathlib.Omega.{arith}
 use borrow.Author.Tests.{lt-leb, leb-true, eqb-true, le-ltb}
@@ -97,7 +97,7 @@ module _ (v : List ℕ) (k : Kept) (there : is_kept k ≡ true) where
         (n : ℕ)
         → n ≡ pair_at v (k.start + 2) (k.start + 3)
         → absent_or (λ n. leb n 16383) (kept_code v k) ≡ true
-        → n ≡ Option.get_or (kept_code v k) 0
+        → n ≡ unwrap_or (kept_code v k) 0
     code-told n e h =
         let few = leb-true (four_in (kept_value v k)) 16383 (rw there at h) in
         rw there (omega (arith, four_at_lem))
@@ -145,7 +145,7 @@ module _ (v : List ℕ) (k : Kept) (there : is_kept k ≡ true) where
         }
 
 -- A part that is absent.
-pub absent_number : (k : Kept) (n : ℕ) → k.start ≤ 0 → 0 ≡ Option.get_or (flagged (is_kept k) n) 0
+pub absent_number : (k : Kept) (n : ℕ) → k.start ≤ 0 → 0 ≡ unwrap_or (flagged (is_kept k) n) 0
 absent_number k n h = rw (le-ltb 0 k.start h)
 
 pub absent_title : (v : List ℕ) (k : Kept) (t : Title) → k.start ≤ 0 → flagged (is_kept k) (title_from v t) ≡ kept_title built_in v k

@@ -2,8 +2,7 @@
 use Prim.Native.Nat.{ℕ, ◌+◌, ◌*◌, ◌≤◌}
 use mathlib.Core.Path.{◌≡◌, refl, sym, ap, ◌∙◌}
 use mathlib.Core.Bool.{Bool, true, false, not, ◌&&◌, beq}
-use mathlib.Core.Option
-use mathlib.Core.Option.{some}
+use Rattle.std.specs.Prelude.{Some, unwrap_or}
 use mathlib.Core.List.{List, [], ◌∷◌, map}
 use native.Mathlib.Omega.{arith}
 use borrow.Author.Tests.{leb-true, ne_eqb, eq-eqb, eqb-true, not-true, not-false}
@@ -155,14 +154,14 @@ routing_told v e = go (eqb n 1) refl e
     go true h f = let z = eqb-true n 1 h in rw (eq-eqb (get_or v 1 0) 1 (omega arith)) z
     go false h f = let z = eqb-true n 2 f in rw (ne_eqb (get_or v 1 0) 1 (λ g. omega arith)) z
 
-number-flagged : (b : Bool) (m n : ℕ) → m ≡ Option.get_or (flagged b n) 0 → flagged b m ≡ flagged b n
-number-flagged true m n e = ap some e
+number-flagged : (b : Bool) (m n : ℕ) → m ≡ unwrap_or (flagged b n) 0 → flagged b m ≡ flagged b n
+number-flagged true m n e = ap Some e
 number-flagged false m n e = refl
 
 module _ {v : List ℕ} {s : Parts} (r : Read v s) (k : Converting r) (t : Title) (c u : ℕ)
     (titled : flagged (is_kept s.title) (title_from v t) ≡ kept_title built_in v s.title)
-    (coded : c ≡ Option.get_or (kept_code v s.code) 0)
-    (subbed : u ≡ Option.get_or (kept_sub v s.ssn) 0) where
+    (coded : c ≡ unwrap_or (kept_code v s.code) 0)
+    (subbed : u ≡ unwrap_or (kept_sub v s.ssn) 0) where
   abbrev told : Common
   told = record {
     on_title = eqb (get_or v 1 0) 1;
@@ -188,7 +187,7 @@ module _ {v : List ℕ} {s : Parts} (r : Read v s) (k : Converting r) (t : Title
         routing_told v k.routing,
       ))
 
-  code_few : (b : Bool) (n : ℕ) → c ≡ Option.get_or (flagged b n) 0 → absent_or (λ n. leb n 16383) (flagged b n) ≡ true → c ≤ 16383
+  code_few : (b : Bool) (n : ℕ) → c ≡ unwrap_or (flagged b n) 0 → absent_or (λ n. leb n 16383) (flagged b n) ≡ true → c ≤ 16383
   code_few true n e h = omega (arith, leb-true n 16383 h)
   code_few false n e h = omega arith
 

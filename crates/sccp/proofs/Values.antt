@@ -3,7 +3,7 @@ use Prim.Native.Nat.{ℕ, ◌+◌, ◌≤◌}
 use mathlib.Core.Path.{◌≡◌, refl, ap, ◌∙◌, subst}
 use mathlib.Core.Bool.{true}
 use mathlib.Core.Logic.{⊎_elim}
-use mathlib.Core.Option.{Option, none, some}
+use Rattle.std.specs.Prelude.{Option, None, Some}
 use mathlib.Core.List.{List, [], ◌∷◌, ◌++◌}
 use native.Mathlib.Omega.{arith}
 use borrow.Author.Tests.{le-leb, leb-true}
@@ -53,8 +53,8 @@ four_back n = omega arith
 
 code_writes : (o : Option ℕ) → absent_or code_small o ≡ true → Writes 8 (present code o)
 unfolding sub_param
-code_writes none s = record { came = tt; params = []; subs = refl; short = omega arith }
-code_writes (some n) s =
+code_writes None s = record { came = tt; params = []; subs = refl; short = omega arith }
+code_writes (Some n) s =
     let h = leb-true n 16383 s in
     let p = param 0x8002 (four n) in
     let c : PieceOf built_in p (code (four_in (four n))) = is_code refl (lit≤ tt) in
@@ -68,8 +68,8 @@ code_writes (some n) s =
 
 sub_writes : (o : Option ℕ) → Octets (sub_octets o) → Writes 8 (present sub o)
 unfolding sub_param
-sub_writes none o = record { came = tt; params = []; subs = refl; short = omega arith }
-sub_writes (some n) o =
+sub_writes None o = record { came = tt; params = []; subs = refl; short = omega arith }
+sub_writes (Some n) o =
     let p = param 0x8003 (0 ∷ 0 ∷ 0 ∷ n ∷ []) in
     let octets : Octets (0 ∷ 0 ∷ 0 ∷ n ∷ []) = (lit< tt, (lit< tt, (lit< tt, o))) in
     record {
@@ -100,8 +100,8 @@ title_writes :
     → absent_or title_converts o ≡ true
     → title_octets o ≡ accepted os
     → Writes 140 (present title o)
-title_writes none os h c e = record { came = tt; params = []; subs = refl; short = omega arith }
-title_writes (some t) os h c e =
+title_writes None os h c e = record { came = tt; params = []; subs = refl; short = omega arith }
+title_writes (Some t) os h c e =
     let (ps, hw, same) = mapped_inv {B = List ℕ} _ (write_digits built_in t.digits) e in
     let k = title_converts_lem t c in
     let d = digit-octets built_in built_in_lawful t.digits ps hw in
@@ -133,8 +133,8 @@ address-pieces a os h e =
     let t = title_writes a.title w.behind h.title p.title w.title in
     let c = code_writes a.code p.code in
     let s = sub_writes a.sub h.sub in
-    let none : Writes 0 [] = record { came = tt; params = []; subs = refl; short = omega arith } in
-    subst (λ (a : Address). Writes 156 (pieces a)) (whole a p) (writes_both t (writes_both c (writes_both s none)))
+    let nothing : Writes 0 [] = record { came = tt; params = []; subs = refl; short = omega arith } in
+    subst (λ (a : Address). Writes 156 (pieces a)) (whole a p) (writes_both t (writes_both c (writes_both s nothing)))
 
 -- What is written, and that it is read.
 pub record AddressWritten (a : Address) : Type 0 where

@@ -1,6 +1,6 @@
 -- Which addresses of SUA convert, in the words of document 02, change request 5; and what the theorems give.
 use Rattle.std.specs.Prelude.{ℕ, ◌+◌, ◌-◌, ◌*◌, ◌/◌, ◌%◌, ◌≤◌, ◌≡◌, true, ◌⊎◌, List, [], length, get_or, drop}
-use Rattle.std.proofs.Math.Option.{Option, none, some}
+use Rattle.std.specs.Prelude.{Option, None, Some}
 use Rattle.bcd.specs.Outcome.{accepted, refused, pick}
 use Rattle.bcd.specs.Digits.{halves, built_in, digits_in, KnownDigits}
 use Rattle.address.specs.Address.{Title, Address, bit, read_address}
@@ -15,8 +15,8 @@ pub record TitleConverts (t : Title) : Type 0 where
 
 -- A part has the property, if it is there.
 abbrev pub Where : {X : Type 0} → (X → Type 0) → Option X → Type 0
-Where P none = Unit {0}
-Where P (some x) = P x
+Where P None = Unit {0}
+Where P (Some x) = P x
 
 -- The conditions, one by one.
 pub record Converts (a : Address) : Type 0 where

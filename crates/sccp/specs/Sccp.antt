@@ -1,7 +1,7 @@
 -- Party addresses of SCCP, read and written as addresses of SUA (ITU-T Q.713, 3.4; document 02, change request 5). The length
 -- octet that stands before a party address in a message is no part of it.
 use Rattle.std.specs.Prelude.{ℕ, ◌+◌, ◌-◌, ◌*◌, ◌/◌, ◌%◌, Bool, true, false, not, ◌&&◌, List, [], ◌∷◌, ◌++◌, leb, eqb, length, get_or}
-use Rattle.std.proofs.Math.Option.{Option, none, some}
+use Rattle.std.specs.Prelude.{Option, None, Some}
 use Rattle.bcd.specs.Outcome.{Outcome, accepted, refused, pick, after, demand, mapped, bounded}
 use Rattle.bcd.specs.Digits.{halves, built_in, digits_in, write_digits}
 use Rattle.parameter.specs.Parameter.{Param}
@@ -13,8 +13,8 @@ invalid = refused 18 []
 
 -- Whether a part is there.
 abbrev pub there : {X : Type 0} → Option X → Bool
-there none = false
-there (some x) = true
+there None = false
+there (Some x) = true
 
 -- No digit is ?, which half octet 15 reads as.
 abbrev pub known : List ℕ → Bool
@@ -36,15 +36,15 @@ with_parts routing code sub title = record {
 
 -- Point code: 14 bits in two octets, the low one first, the two high bits 0 (Q.713, 3.4.2.1). Read, with the octets behind it.
 abbrev pub code_in : Bool → List ℕ → Outcome (Option ℕ × List ℕ)
-code_in false xs = accepted (none, xs)
-code_in true (low ∷ high ∷ xs) = demand (leb high 63) 18 [] (accepted (some (high * 256 + low), xs))
+code_in false xs = accepted (None, xs)
+code_in true (low ∷ high ∷ xs) = demand (leb high 63) 18 [] (accepted (Some (high * 256 + low), xs))
 code_in true (x ∷ []) = invalid
 code_in true [] = invalid
 
 -- Subsystem number: one octet (Q.713, 3.4.2.2). Read, with the octets behind it.
 abbrev pub sub_in : Bool → List ℕ → Outcome (Option ℕ × List ℕ)
-sub_in false xs = accepted (none, xs)
-sub_in true (n ∷ xs) = accepted (some n, xs)
+sub_in false xs = accepted (None, xs)
+sub_in true (n ∷ xs) = accepted (Some n, xs)
 sub_in true [] = invalid
 
 -- How many digits stand in n octets, by the encoding scheme: 1 is BCD with an odd number, 2 with an even number (Q.713,
@@ -67,14 +67,14 @@ digits_of scheme xs =
 abbrev pub title_in : List ℕ → Outcome (Option Title)
 title_in (tt ∷ plan ∷ nature ∷ xs) =
     demand (leb nature 127) 18 []
-    (mapped (λ ds. some (record { gti = 4; tt = tt; np = plan / 16; noa = nature; digits = ds })) (digits_of (plan % 16) xs))
+    (mapped (λ ds. Some (record { gti = 4; tt = tt; np = plan / 16; noa = nature; digits = ds })) (digits_of (plan % 16) xs))
 title_in (x ∷ y ∷ []) = invalid
 title_in (x ∷ []) = invalid
 title_in [] = invalid
 
 -- Nothing stands behind the last part.
 abbrev pub nothing_left : List ℕ → Outcome (Option Title)
-nothing_left [] = accepted none
+nothing_left [] = accepted None
 nothing_left (x ∷ xs) = invalid
 
 -- The title by its indicator: none or 4 (Q.713, 3.4.2.3).
@@ -98,8 +98,8 @@ same false b = not b
 
 -- A part has the property, if it is there.
 abbrev pub absent_or : {X : Type 0} → (X → Bool) → Option X → Bool
-absent_or test none = true
-absent_or test (some x) = test x
+absent_or test None = true
+absent_or test (Some x) = test x
 
 -- Which addresses of SUA convert (document 02, change request 5): routing is on title (1) or on SSN and point code (2) ..
 abbrev pub routes : ℕ → Bool
@@ -128,18 +128,18 @@ converts a =
 
 -- The octets of each part: a point code, the low octet first (Q.713, 3.4.2.1) ..
 abbrev pub code_octets : Option ℕ → List ℕ
-code_octets none = []
-code_octets (some n) = n % 256 ∷ n / 256 ∷ []
+code_octets None = []
+code_octets (Some n) = n % 256 ∷ n / 256 ∷ []
 
 -- .. an SSN (3.4.2.2) ..
 abbrev pub sub_octets : Option ℕ → List ℕ
-sub_octets none = []
-sub_octets (some n) = n ∷ []
+sub_octets None = []
+sub_octets (Some n) = n ∷ []
 
 -- .. and a title, whose encoding scheme is 1 for an odd number of digits and 2 for an even one (3.4.2.3.4).
 abbrev pub title_octets : Option Title → Outcome (List ℕ)
-title_octets none = accepted []
-title_octets (some t) =
+title_octets None = accepted []
+title_octets (Some t) =
     mapped (λ os. t.tt ∷ (t.np * 16 + (2 - length t.digits % 2)) ∷ t.noa ∷ os) (write_digits built_in t.digits)
 
 -- The address indicator, title indicator 4 in its bits 3 to 6 (3.4.1).

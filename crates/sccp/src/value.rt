@@ -1,6 +1,6 @@
 // Address values of SUA, read and written (RFC 3868, 3.10.2).
 ghost use Rattle.std.specs.Prelude.{◌≡◌, true, ◌∷◌, [], ◌+◌, ◌/◌, ◌≤◌, leb, length};
-ghost use Rattle.std.proofs.Math.Option.{get_or};
+ghost use Rattle.std.specs.Prelude.{unwrap_or};
 ghost use Rattle.bcd.specs.Outcome.{accepted, pick, mapped, delivered, deliver, most};
 ghost use Rattle.bcd.specs.Answers.{counted_of};
 ghost use Rattle.bcd.specs.Digits.{built_in};
@@ -112,7 +112,7 @@ fn address_converts(value: &[u8], parts: Parts) -> bool
 fn code_of(value: &[u8], kept: Kept) -> u16
     requires held_in { HeldIn value.now 4 kept }
     requires kept_value { absent_or (λ n. leb n 16383) (kept_code value.now kept) ≡ true }
-    ensures { result ≡ get_or (kept_code value.now kept) 0 }
+    ensures { result ≡ unwrap_or (kept_code value.now kept) 0 }
 {
     if 0 < kept.start {
         return be16(value[kept.start + 2], value[kept.start + 3]);
@@ -123,7 +123,7 @@ fn code_of(value: &[u8], kept: Kept) -> u16
 // The SSN, 0 if there is none.
 fn ssn_of(value: &[u8], kept: Kept) -> u8
     requires { HeldIn value.now 4 kept }
-    ensures { result ≡ get_or (kept_sub value.now kept) 0 }
+    ensures { result ≡ unwrap_or (kept_sub value.now kept) 0 }
 {
     if 0 < kept.start {
         return value[kept.start + 3];

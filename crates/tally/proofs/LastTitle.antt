@@ -2,7 +2,7 @@
 use Prim.Native.Nat.{ℕ, ◌+◌, ◌-◌, ◌≤◌}
 use mathlib.Core.Path.{◌≡◌, refl, sym, ap, ◌∙◌, subst}
 use mathlib.Core.Bool.{Bool, true, false}
-use mathlib.Core.Option.{Option, none, some}
+use Rattle.std.specs.Prelude.{Option, None, Some}
 use mathlib.Core.List.{List, [], ◌∷◌, ◌++◌, map}
 use borrow.Author.Tests.{leb-true}
 use lib.Dec.{leb, eqb}
@@ -22,20 +22,20 @@ use Rattle.tally.proofs.Looking.{}
 
 -- A title read at a place, which has its eight octets, or none.
 abbrev pub TitleAt : List ℕ → Option Place → Option Title → Type 0
-TitleAt v none t = t ≡ none
-TitleAt v (some p) t = (8 ≤ length (valued v p).value) × (t ≡ some (title_at built_in (valued v p).value))
+TitleAt v None t = t ≡ None
+TitleAt v (Some p) t = (8 ≤ length (valued v p).value) × (t ≡ Some (title_at built_in (valued v p).value))
 
 module _ (v : List ℕ) where
   later_title : (a b : Option Place) (s t : Option Title) → TitleAt v a s → TitleAt v b t → TitleAt v (later a b) (later s t)
-  later_title none b s t h k = subst (λ (s : Option Title). TitleAt v b (later s t)) (sym h) k
-  later_title (some p) none s t h k = (h.0, rw (h.1, k))
-  later_title (some p) (some q) s t h k = (k.0, rw (h.1, k.1))
+  later_title None b s t h k = subst (λ (s : Option Title). TitleAt v b (later s t)) (sym h) k
+  later_title (Some p) None s t h k = (h.0, rw (h.1, k))
+  later_title (Some p) (Some q) s t h k = (k.0, rw (h.1, k.1))
 
   last_joined : (xs ys : List Piece) → last as_title (xs ++ ys) ≡ later (last as_title xs) (last as_title ys)
   last_joined [] ys = refl
   last_joined (x ∷ xs) ys = ap (later (as_title x)) (last_joined xs ys) ∙ later-later (as_title x) (last as_title xs) (last as_title ys)
 
-  piece_title : (p : Place) (us : List Piece) → piece_in built_in (valued v p) ≡ accepted us → TitleAt v (pick (eqb p.tag 0x8001) (some p) none) (last as_title us)
+  piece_title : (p : Place) (us : List Piece) → piece_in built_in (valued v p) ≡ accepted us → TitleAt v (pick (eqb p.tag 0x8001) (Some p) None) (last as_title us)
   unfolding piece_in title_in
   piece_title p us e = on (eqb p.tag 0x8001) (eqb p.tag 0x8002) (eqb p.tag 0x8003) e
     where
@@ -46,7 +46,7 @@ module _ (v : List ℕ) where
           (pick c (four_octets (valued v p) (sub (get_or (valued v p).value 3 0)))
           (accepted (other (valued v p) ∷ []))))
           ≡ accepted us
-          → TitleAt v (pick a (some p) none) (last as_title us)
+          → TitleAt v (pick a (Some p) None) (last as_title us)
       on true b c e =
           let (t, ht, k) = mapped_inv (λ t. title t ∷ []) (title_in built_in (valued v p).value) e in
           let (l, s) = demand_inv (leb 8 (length (valued v p).value)) _ _ _ ht in
@@ -67,7 +67,7 @@ module _ (v : List ℕ) where
   last_title (p ∷ ps) xs e =
       let (us, vs, hu, hv, j) = each_inv (piece_in built_in) (valued v p) (map (valued v) ps) xs e in
       subst (TitleAt v (last_with 0x8001 (p ∷ ps))) (sym (last_joined us vs) ∙ ap (last as_title) j)
-      (later_title (pick (eqb p.tag 0x8001) (some p) none) (last_with 0x8001 ps) (last as_title us) (last as_title vs) (piece_title p us hu) (last_title ps vs hv))
+      (later_title (pick (eqb p.tag 0x8001) (Some p) None) (last_with 0x8001 ps) (last as_title us) (last as_title vs) (piece_title p us hu) (last_title ps vs hv))
 
 -- An address that was read, by the places of its sub-parameters.
 pub record Opened (v : List ℕ) (a : Address) : Type 0 where
@@ -104,13 +104,13 @@ title_found v a o h e =
     rw same k.title
 
 -- a title that was found, lent as a part of the value
-module _ (v : List ℕ) (p : Place) (e : accepted (some p) ≡ mapped (last_with 0x8001) (places v 4)) where
+module _ (v : List ℕ) (p : Place) (e : accepted (Some p) ≡ mapped (last_with 0x8001) (places v 4)) where
   pub title_large : Reads v → 8 ≤ length (take (p.start + p.length - p.start) (drop p.start v))
-  title_large r = rw (part_of p.start p.length v) (title_found v r.address (some p) r.reads e).0
+  title_large r = rw (part_of p.start p.length v) (title_found v r.address (Some p) r.reads e).0
 
   pub title_known :
       (a : Address)
       → address_in built_in v ≡ accepted a
-      → some (title_at built_in (take (p.start + p.length - p.start) (drop p.start v))) ≡ a.title
+      → Some (title_at built_in (take (p.start + p.length - p.start) (drop p.start v))) ≡ a.title
   title_known a h =
-      ap (λ (u : List ℕ). some (title_at built_in u)) (part_of p.start p.length v) ∙ sym (title_found v a (some p) h e).1
+      ap (λ (u : List ℕ). Some (title_at built_in u)) (part_of p.start p.length v) ∙ sym (title_found v a (Some p) h e).1

@@ -3,7 +3,7 @@ use Prim.Native.Nat.{ℕ, ◌+◌, ◌-◌, ◌≤◌, ◌<◌}
 use mathlib.Core.Path.{◌≡◌, refl, sym, ap, ◌∙◌, subst}
 use mathlib.Core.Bool.{Bool, true, false}
 use mathlib.Core.Logic.{◌⊎◌, ⊎_elim, inl, inr}
-use mathlib.Core.Option.{Option, none, some}
+use Rattle.std.specs.Prelude.{Option, None, Some}
 use mathlib.Core.List.{List, [], ◌∷◌, ◌++◌, map}
 use native.Mathlib.Omega.{arith}
 use borrow.Author.Tests.{eqb-true, ne_eqb}
@@ -76,13 +76,13 @@ other_destination p true vs = refl
 other_destination p false vs = refl
 
 abbrev pub length_at : Option Place → ℕ
-length_at none = 0
-length_at (some p) = p.length
+length_at None = 0
+length_at (Some p) = p.length
 
 -- An address read at a place, or none.
 abbrev pub ReadAt : List ℕ → Option Place → Option Address → Type 0
-ReadAt xs none o = o ≡ none
-ReadAt xs (some p) o = (a : Address) × (address_in built_in (valued xs p).value ≡ accepted a) × (o ≡ some a)
+ReadAt xs None o = o ≡ None
+ReadAt xs (Some p) o = (a : Address) × (address_in built_in (valued xs p).value ≡ accepted a) × (o ≡ Some a)
 
 module _ (xs : List ℕ) where
   data_first :
@@ -98,7 +98,7 @@ module _ (xs : List ℕ) where
       rest : (vs : List Part) → data_length vs ≡ length_at (first_with 0x010B ps) → pick (eqb p.tag 0x010B) p.length (data_length vs) ≡ length_at (first_with 0x010B (p ∷ ps))
       rest vs ih = on (eqb p.tag 0x010B)
         where
-          on : (b : Bool) → pick b p.length (data_length vs) ≡ length_at (pick b (some p) (first_with 0x010B ps))
+          on : (b : Bool) → pick b p.length (data_length vs) ≡ length_at (pick b (Some p) (first_with 0x010B ps))
           on true = refl
           on false = ih
 
@@ -133,7 +133,7 @@ module _ (xs : List ℕ) where
           → ReadAt xs (first_with 0x0103 (p ∷ ps)) (destination (us ++ vs))
       read us vs a ha k ih = subst (λ (us : List Part). ReadAt xs (first_with 0x0103 (p ∷ ps)) (destination (us ++ vs))) k (on (eqb p.tag 0x0103))
         where
-          on : (b : Bool) → ReadAt xs (pick b (some p) (first_with 0x0103 ps)) (pick b (some a) (destination vs))
+          on : (b : Bool) → ReadAt xs (pick b (Some p) (first_with 0x0103 ps)) (pick b (Some a) (destination vs))
           on true = (a, ha, refl)
           on false = ih
 
@@ -199,10 +199,10 @@ module _ {xs : List ℕ} {w : Meaning} (m : Means xs w) where
   -- a destination that was found, lent as a part of the octets
   pub destination_reads :
       (p : Place)
-      → accepted (some p) ≡ mapped (first_with 0x0103) (places xs 8)
+      → accepted (Some p) ≡ mapped (first_with 0x0103) (places xs 8)
       → Reads (take (p.start + p.length - p.start) (drop p.start xs))
   destination_reads p e =
-      let (a, ha, k) = means_destination (some p) e in
+      let (a, ha, k) = means_destination (Some p) e in
       let s = m.small in
       let inside = first_inside means_walks 0x0103 p e in
       record {
@@ -213,12 +213,12 @@ module _ {xs : List ℕ} {w : Meaning} (m : Means xs w) where
 
   pub destination-known :
       (p : Place) (a : Address)
-      → accepted (some p) ≡ mapped (first_with 0x0103) (places xs 8)
+      → accepted (Some p) ≡ mapped (first_with 0x0103) (places xs 8)
       → address_in built_in (take (p.start + p.length - p.start) (drop p.start xs)) ≡ accepted a
-      → destination w.parts ≡ some a
+      → destination w.parts ≡ Some a
   destination-known p a e h =
-      let (b, hb, k) = means_destination (some p) e in
-      k ∙ ap some (accepted_inj (sym hb ∙ sym (ap (address_in built_in) (part_of p.start p.length xs)) ∙ h))
+      let (b, hb, k) = means_destination (Some p) e in
+      k ∙ ap Some (accepted_inj (sym hb ∙ sym (ap (address_in built_in) (part_of p.start p.length xs)) ∙ h))
 
 -- A message that has a form means something.
 pub formed_means : (xs : List ℕ) → ((i : ℕ) → get_or xs i 0 < 256) → Formed xs → (w : Meaning) × (meaning built_in xs ≡ accepted w)

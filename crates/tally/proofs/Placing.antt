@@ -3,7 +3,7 @@ use Prim.Native.Nat.{ℕ, suc, ◌+◌, ◌≤◌, ◌<◌}
 use mathlib.Core.Path.{◌≡◌, refl, sym, subst}
 use mathlib.Core.Bool.{Bool, true, false}
 use mathlib.Core.Logic.{⊎_elim}
-use mathlib.Core.Option.{Option, none, some}
+use Rattle.std.specs.Prelude.{Option, None, Some}
 use mathlib.Core.List.{List, [], ◌∷◌}
 use native.Mathlib.Omega.{arith}
 use lib.Dec.{eqb}
@@ -38,12 +38,12 @@ unfolding longest
 longest-within ps ds = place-within (take (reach ps ds) ds) ps
 
 title_within : (ps : List (List ℕ)) (t : Option Title) → title_row ps t ≤ length ps
-title_within ps none = omega arith
-title_within ps (some t) = longest-within ps t.digits
+title_within ps None = omega arith
+title_within ps (Some t) = longest-within ps t.digits
 
 destination-within : (ps : List (List ℕ)) (a : Option Address) → destination_row ps a ≤ length ps
-destination-within ps none = omega arith
-destination-within ps (some a) = title_within ps a.title
+destination-within ps None = omega arith
+destination-within ps (Some a) = title_within ps a.title
 
 meant-within : (ps : List (List ℕ)) (m : Meaning) → (meant ps m).row ≤ length ps
 meant-within ps m = on (is_cldt m.type)

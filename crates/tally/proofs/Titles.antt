@@ -1,7 +1,7 @@
 -- The row of a title, from the numbers of its first digits.
 use Prim.Native.Nat.{ℕ, ◌+◌, ◌-◌, ◌*◌, ◌<◌, min}
 use mathlib.Core.Path.{◌≡◌, ap, ◌∙◌, subst}
-use mathlib.Core.Option.{some}
+use Rattle.std.specs.Prelude.{Some}
 use mathlib.Core.Bool.{true}
 use mathlib.Core.List.{List, map}
 use native.Mathlib.Omega.{arith}
@@ -40,7 +40,7 @@ pub title_found :
     → r ≡ longest ps (map built_in.char hs))
     → (ps : List (List ℕ))
     → Kept ps lengths held
-    → r ≡ title_row ps (some (title_at built_in v))
+    → r ≡ title_row ps (Some (title_at built_in v))
 title_found lengths held v first out n r u octets e stored found ps k =
     let xs = drop 8 v in
     let hs = take n (halves xs) in

@@ -1,6 +1,6 @@
 -- The day tally by member: one call, and a day of calls (document 02, CR 1).
 use Rattle.std.specs.Prelude.{ℕ, ◌+◌, Bool, ◌&&◌, List, [], ◌∷◌, length, eqb}
-use Rattle.std.proofs.Math.Option.{Option, none, some}
+use Rattle.std.specs.Prelude.{Option, None, Some}
 use Rattle.bcd.specs.Outcome.{Outcome, accepted, refused, pick, after, mapped}
 use Rattle.bcd.specs.Digits.{built_in}
 use Rattle.address.specs.Address.{Title, Address}
@@ -23,19 +23,19 @@ data_length (address tag a ∷ ps) = data_length ps
 
 -- The first destination address (RFC 3868, 3.10.3).
 abbrev pub destination : List Part → Option Address
-destination [] = none
+destination [] = None
 destination (raw p ∷ ps) = destination ps
-destination (address tag a ∷ ps) = pick (eqb tag 0x0103) (some a) (destination ps)
+destination (address tag a ∷ ps) = pick (eqb tag 0x0103) (Some a) (destination ps)
 
 -- The row of a title: that of the longest member that its digits begin with, else the unplaced row.
 abbrev pub title_row : List (List ℕ) → Option Title → ℕ
-title_row ps none = length ps
-title_row ps (some t) = longest ps t.digits
+title_row ps None = length ps
+title_row ps (Some t) = longest ps t.digits
 
 -- The row of a destination. Whether its title is there decides, and not the include bit.
 abbrev pub destination_row : List (List ℕ) → Option Address → ℕ
-destination_row ps none = length ps
-destination_row ps (some a) = title_row ps a.title
+destination_row ps None = length ps
+destination_row ps (Some a) = title_row ps a.title
 
 -- What a message that has a form adds: its first Data's octets, a CLDT to its first destination's row, others to the
 -- unplaced row, which stands behind the members.

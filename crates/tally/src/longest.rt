@@ -1,6 +1,6 @@
 // The row of a title: the longest member that its digits begin with.
 ghost use Rattle.std.specs.Prelude.{◌≡◌, List, map, ℕ, ◌*◌, ◌≤◌, ◌<◌, length, get_or, take};
-ghost use Rattle.std.proofs.Math.Option.{some};
+ghost use Rattle.std.specs.Prelude.{Some};
 ghost use Rattle.bcd.specs.Outcome.{All};
 ghost use Rattle.bcd.specs.Digits.{built_in, halves};
 ghost use Rattle.parameter.specs.Table.{over};
@@ -69,7 +69,7 @@ pub(crate) fn title_row(lengths: &[u8], held: &[u64; 64], title: &[u8]) -> usize
     requires in_bounds { 8 ≤ length title.now }
     ensures { (ps : List (List ℕ))
         → Kept ps lengths.now held.now
-        → result ≡ title_row ps (some (title_at built_in title.now)) }
+        → result ≡ title_row ps (Some (title_at built_in title.now)) }
 {
     let mut n = title[4] as usize;
     let there = 2 * (title.len() - 8);

@@ -1,6 +1,6 @@
 -- What is kept of an address value, as the parts of the address; and the refusal of a sub-parameter that is too short.
 use Rattle.std.specs.Prelude.{ℕ, Bool, true, false, List, [], ◌∷◌, ◌++◌, map, eqb, get_or, take, drop}
-use Rattle.std.proofs.Math.Option.{Option}
+use Rattle.std.specs.Prelude.{Option}
 use Rattle.bcd.specs.Outcome.{Outcome, refused, pick}
 use Rattle.bcd.specs.Digits.{Alphabet}
 use Rattle.parameter.specs.Parameter.{four_in}

@@ -1,6 +1,6 @@
 -- `lookup::first_address` meets its contract.
 use mathlib.Core.Path.{sym, ap, ◌∙◌}
-use mathlib.Core.Option.{Option}
+use Rattle.std.specs.Prelude.{Option}
 use Rattle.bcd.specs.Outcome.{Outcome}
 use Rattle.parameter.specs.declared.Place.{Place}
 use Rattle.parameter.specs.Table.{table}

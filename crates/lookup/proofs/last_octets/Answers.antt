@@ -1,6 +1,6 @@
 -- `lookup::last_octets` meets its contract.
 use mathlib.Core.Path.{◌≡◌, sym, ap}
-use mathlib.Core.Option.{map}
+use Rattle.std.specs.Prelude.{option_map}
 use Rattle.bcd.specs.Outcome.{mapped}
 use Rattle.parameter.specs.declared.Number.{Number}
 use Rattle.parameter.specs.Answers.{number_of}
@@ -8,8 +8,8 @@ use Rattle.lookup.specs.Octets.{cause_octets}
 use Rattle.lookup.proofs.last_octets.Goals as goal
 
 -- by the number's case
-answered : {m n : Number} → m ≡ n → mapped (map cause_octets) (number_of m) ≡ mapped (map cause_octets) (number_of n)
-answered e = ap (λ (x : Number). mapped (map cause_octets) (number_of x)) e
+answered : {m n : Number} → m ≡ n → mapped (option_map cause_octets) (number_of m) ≡ mapped (option_map cause_octets) (number_of n)
+answered e = ap (λ (x : Number). mapped (option_map cause_octets) (number_of x)) e
 
 pub returns-in-Value : goal.returns-in-Value
 returns-in-Value c = sym (answered c.in-Value.is)

@@ -1,6 +1,6 @@
 -- The rows that one pass over the records keeps: for each of a list of tags, that of the first record with it.
 use Rattle.std.specs.Prelude.{ℕ, suc, ◌+◌, ◌≤◌, ◌<◌, ◌≡◌, Bool, true, false, List, [], ◌∷◌, length, get_or, take, drop, eqb}
-use Rattle.std.proofs.Math.Option.{Option, none, some}
+use Rattle.std.specs.Prelude.{Option, None, Some}
 use Rattle.bcd.specs.Outcome.{Outcome, accepted, refused, pick}
 use Rattle.parameter.specs.declared.Place.{Place}
 use Rattle.parameter.specs.Table.{Table, room, rows, find_param}
@@ -16,11 +16,11 @@ place_among (t ∷ ts) tag = pick (eqb tag t) 0 (suc (place_among ts tag))
 
 -- A place that was found lies inside the values.
 abbrev pub Within : List ℕ → Outcome (Option Place) → Type 0
-Within values o = (p : Place) → o ≡ accepted (some p) → p.start + p.length ≤ length values
+Within values o = (p : Place) → o ≡ accepted (Some p) → p.start + p.length ≤ length values
 
 abbrev pub head_of : List Place → Option Place
-head_of [] = none
-head_of (p ∷ ps) = some p
+head_of [] = None
+head_of (p ∷ ps) = Some p
 
 -- What a kept row stands for: its record, or none where the records end before it; 15 where one reached outside.
 abbrev pub kept_at : (outside : Bool) → Table → (count row : ℕ) → Outcome (Option Place)

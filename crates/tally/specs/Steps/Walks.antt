@@ -1,6 +1,6 @@
 -- Parameters looked for in octets whose walk is not refused.
 use Rattle.std.specs.Prelude.{ℕ, ◌≤◌, ◌≡◌, List, [], ◌∷◌, length, eqb}
-use Rattle.std.proofs.Math.Option.{Option, none, some}
+use Rattle.std.specs.Prelude.{Option, None, Some}
 use Rattle.bcd.specs.Outcome.{accepted, pick, most}
 use Rattle.bcd.specs.Digits.{built_in}
 use Rattle.parameter.specs.declared.Place.{Place}
@@ -16,8 +16,8 @@ pub record Walks (xs : List ℕ) (at : ℕ) : Type 0 where
 
 -- The last place with a tag.
 abbrev pub last_with : ℕ → List Place → Option Place
-last_with tag [] = none
-last_with tag (p ∷ ps) = later (pick (eqb p.tag tag) (some p) none) (last_with tag ps)
+last_with tag [] = None
+last_with tag (p ∷ ps) = later (pick (eqb p.tag tag) (Some p) None) (last_with tag ps)
 
 -- A value that is read as an address.
 pub record Reads (v : List ℕ) : Type 0 where

@@ -2,7 +2,7 @@
 use Prim.Native.Nat.{ℕ, ◌<◌}
 use mathlib.Core.Path.{◌≡◌, refl, sym, ap, ◌∙◌}
 use mathlib.Core.Bool.{Bool}
-use mathlib.Core.Option.{Option, map}
+use Rattle.std.specs.Prelude.{Option, option_map}
 use mathlib.Core.List.{List}
 use native.Mathlib.Omega.{arith}
 use lib.ListN.{length, get_or}
@@ -50,8 +50,8 @@ made :
     → ((v : List ℕ) → Octets v → f (four_in v) ≡ read v)
     → (o : Outcome (Option ℕ))
     → o ≡ first_read (of_four four_in) tag values t count
-    → mapped (map f) o ≡ first_read (of_four read) tag values t count
-made values t count octets tag f read same o e = ap (mapped (map f)) e ∙ four_then f read same tag values t count octets
+    → mapped (option_map f) o ≡ first_read (of_four read) tag values t count
+made values t count octets tag f read same o e = ap (mapped (option_map f)) e ∙ four_then f read same tag values t count octets
 
 pub keep_first-outside-requires : goal.keep_first-outside-requires
 keep_first-outside-requires c = refl

@@ -1,7 +1,7 @@
 -- `message::SuaMessage::affected_point_codes` meets its contract.
 use Prim.Native.Nat.{ℕ}
 use mathlib.Core.Path.{refl, ap, ◌∙◌}
-use mathlib.Core.Option.{Option}
+use Rattle.std.specs.Prelude.{Option}
 use mathlib.Core.List.{List}
 use native.Mathlib.Omega.{arith}
 use Rattle.bcd.specs.Outcome.{Outcome, accepted, mapped}

@@ -1,6 +1,6 @@
 -- `message::SuaMessage::protocol_class` meets its contract.
 use mathlib.Core.Path.{ap, ◌∙◌}
-use mathlib.Core.Option.{Option, map}
+use Rattle.std.specs.Prelude.{Option, option_map}
 use Prim.Native.Nat.{ℕ}
 use Rattle.bcd.specs.Outcome.{Outcome, mapped}
 use Rattle.bcd.proofs.Outcomes.{octets-of}
@@ -13,6 +13,6 @@ use Rattle.message.proofs.SuaMessage.protocol_class.Goals as goal
 pub returns : goal.returns
 returns c = let values = c.args.values.now in
     c.fourth_octet.ensures
-    ∙ ap (λ (o : Outcome (Option ℕ)). mapped (map fourth_octet) o) c.first_number.ensures
+    ∙ ap (λ (o : Outcome (Option ℕ)). mapped (option_map fourth_octet) o) c.first_number.ensures
     ∙ four_then fourth_octet fourth fourth-of 0x0115 values (table c.args.tags.now c.args.starts.now c.args.lengths.now) c.args.self.count
     (octets-of values (λ i. (c.type_inv.values i).fits))

@@ -1,7 +1,7 @@
 -- `parameter::table::find_parameter` meets its contract: none of the first records has the tag.
 use borrow.Author.Rules.{rules}
 use mathlib.Core.Path.{refl, sym, ap, ◌∙◌}
-use mathlib.Core.Option.{some}
+use Rattle.std.specs.Prelude.{Some}
 use lib.Seq.{take_all}
 use Rattle.bcd.specs.Outcome.{accepted}
 use Rattle.parameter.specs.declared.Place.{Place}
@@ -26,7 +26,7 @@ returns-then-tags-row c =
     let k = c.loop-row.invariant.1 in
     let row = held_row k c.loop-row.row c.loop-row-test.true in
     let here = first_found c.args.tag ((first_rows table.tags table.starts table.lengths c.args.count)) c.loop-row.row (rw (held_rows k) c.loop-row-test.true) c.loop-row.invariant.2 (ap (λ (p : Place). p.tag) row ∙ c.if-tags-row.true) in
-    sym (find_first c.args.values.now table c.args.count c.args.tag _ k.known ∙ ap accepted (here ∙ ap some row))
+    sym (find_first c.args.values.now table c.args.count c.args.tag _ k.known ∙ ap accepted (here ∙ ap Some row))
 
 pub loop-row-preserved : goal.loop-row-preserved
 loop-row-preserved c =

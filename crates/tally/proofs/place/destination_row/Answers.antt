@@ -1,7 +1,7 @@
 -- `tally::place::destination_row` meets its contract: the title is at the place that was found.
 use Prim.Native.Nat.{◌+◌, ◌≤◌}
 use mathlib.Core.Path.{◌≡◌, sym, ap, ◌∙◌}
-use mathlib.Core.Option.{none}
+use Rattle.std.specs.Prelude.{None}
 use native.Mathlib.Omega.{arith}
 use lib.ListN.{length}
 use Rattle.bcd.specs.Outcome.{mapped}
@@ -43,7 +43,7 @@ returns-in-At c =
 pub returns-in-None : goal.returns-in-None
 returns-in-None c =
     let told : (f : Found) → c.last.result ≡ f → found_of f ≡ mapped (last_with 0x8001) (places c.args.value.now 4) = λ f e. sym (ap found_of e) ∙ c.last.ensures in
-    λ ps a kept e. kept_count kept ∙ ap (title_row ps) (sym (title_found c.args.value.now a none e (told _ c.in-None.is)))
+    λ ps a kept e. kept_count kept ∙ ap (title_row ps) (sym (title_found c.args.value.now a None e (told _ c.in-None.is)))
 
 pub returns-in-Refused : goal.returns-in-Refused
 returns-in-Refused c =

@@ -2,7 +2,7 @@
 use Prim.Native.Nat.{◌+◌, ◌≤◌}
 use mathlib.Core.Path.{◌≡◌, sym, ap, ◌∙◌}
 use mathlib.Core.Bool.{true}
-use mathlib.Core.Option.{none, some}
+use Rattle.std.specs.Prelude.{None, Some}
 use native.Mathlib.Omega.{arith}
 use lib.ListN.{length}
 use Rattle.bcd.specs.Outcome.{accepted, mapped}
@@ -56,7 +56,7 @@ returns-in-At c =
     let w = means c.args.input.now m e in
     let r = destination_reads w _ f in
     c.destination_row.ensures ps r.address kept r.reads
-    ∙ cldt_row ps m (some r.address) (cldt m e) (destination-known w _ r.address f r.reads)
+    ∙ cldt_row ps m (Some r.address) (cldt m e) (destination-known w _ r.address f r.reads)
 
 pub returns-in-None : goal.returns-in-None
 returns-in-None c =
@@ -64,7 +64,7 @@ returns-in-None c =
     let told : (f : Found) → c.first.result ≡ f → found_of f ≡ mapped (first_with 0x0103) (places c.args.input.now 8) = λ f e. sym (ap found_of e) ∙ c.first.ensures in
     λ ps m kept e.
     let w = means c.args.input.now m e in
-    kept_count kept ∙ cldt_row ps m none (cldt m e) (means_destination w none (told _ c.in-None.is))
+    kept_count kept ∙ cldt_row ps m None (cldt m e) (means_destination w None (told _ c.in-None.is))
 
 pub returns-in-Refused : goal.returns-in-Refused
 returns-in-Refused c =

@@ -1,11 +1,9 @@
 -- The number and the values of each case of the code's answers: document 01's ('Choosing the form by place', last paragraph)
 -- up to 15, then document 02's.
-use Rattle.std.specs.Prelude.{ℕ, List, [], ◌∷◌}
+use Rattle.std.specs.Prelude.{ℕ, List, [], ◌∷◌, Result, Ok, Err}
 use Rattle.bcd.specs.Outcome.{Outcome, accepted, refused}
 use Rattle.bcd.specs.declared.error.Refusal.{Refusal}
 use Rattle.bcd.specs.declared.error.Refusal.TheVariants as R
-use Rattle.bcd.specs.declared.error.Counted.{Counted}
-use Rattle.bcd.specs.declared.error.Counted.TheVariants as C
 
 -- Each refusal's number, and the values returned with it in the documents' order.
 abbrev pub numbered : Refusal → ℕ × List ℕ
@@ -31,6 +29,7 @@ numbered R.InvalidSccpAddress = (18, [])
 abbrev pub refusal_of : {A : Type 0} → Refusal → Outcome A
 refusal_of r = refused (numbered r).0 (numbered r).1
 
-abbrev pub counted_of : Counted → Outcome ℕ
-counted_of (C.Count n) = accepted n
-counted_of (C.Refused r) = refusal_of r
+-- A result of the code as the documents say it.
+abbrev pub outcome_of : {A : Type 0} → Result A Refusal → Outcome A
+outcome_of (Ok a) = accepted a
+outcome_of (Err r) = refusal_of r

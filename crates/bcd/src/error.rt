@@ -1,7 +1,7 @@
-// Why a call refuses, and the answer that holds it. Documents 01 and 02 number the refusals in this order, from 1; the first
+// Why a call refuses. Documents 01 and 02 number the refusals in this order, from 1; the first
 // nine are those of error.rs.
 
-#[derive(Clone, Copy)]
+#[derive(Clone, Copy, Debug, PartialEq, Eq)]
 pub enum Refusal {
     // The octets are fewer than an item of this kind has at least.
     TooShort {
@@ -55,11 +55,4 @@ pub enum Refusal {
     UnconvertibleAddress,
     // Octets that are no SCCP party address, or one that does not convert.
     InvalidSccpAddress,
-}
-
-// How many octets were written, or records stored; or why none were.
-#[derive(Clone, Copy)]
-pub enum Counted {
-    Count(usize),
-    Refused(Refusal),
 }

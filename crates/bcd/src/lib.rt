@@ -4,43 +4,50 @@
 pub mod error;
 pub mod rewrite;
 
-ghost use Rattle.std.specs.Prelude.{◌≡◌, ◌*◌, ◌≤◌, ◌<◌, min, length, get_or, replicate};
+ghost use Rattle.std.specs.Prelude.{◌≡◌, ◌*◌, ◌≤◌, length, get_or};
 ghost use Rattle.bcd.specs.Outcome.{accepted, mapped, delivered, deliver};
-ghost use Rattle.bcd.specs.Answers.{counted_of};
+ghost use Rattle.bcd.specs.Answers.{outcome_of};
 ghost use Rattle.bcd.specs.Digits.{halves, built_in, digits_in, read_digits, write_digits};
-ghost use Rattle.bcd.specs.Steps.{nibble, Packed};
+ghost use Rattle.bcd.specs.Digits.{written, digits_record};
+ghost use Rattle.bcd.specs.Steps.{Packed, one_half};
 
-use error::{Counted, Refusal};
+use error::Refusal;
 
-// What reading digits answers: how many there are, or why none were read; and the digits in front of zeros, or zeros
-// alone.
-#[derive(Clone, Copy)]
+// Digits that were read, in front of zeros, and how many there are.
+#[derive(Clone, Copy, Debug, PartialEq, Eq)]
 pub struct GtDigits {
-    pub answer: Counted,
     pub digits: [u8; 255],
+    pub count: usize,
 }
 
-// The half octet that a digit is written as, or 16 where the octet is no digit. Comparisons, and no `match`, whose jump table
-// takes five times as long.
-fn char_to_nibble(digit: u8) -> u8
-    ensures { result ≡ nibble built_in digit }
+// The half octet that a digit is written as, if the octet is a digit. Comparisons, and no `match`, whose jump table takes five
+// times as long.
+fn char_to_nibble(digit: u8) -> Option<u8>
+    ensures { result ≡ built_in.half digit }
 {
     if b'0' <= digit && digit <= b'9' {
-        return digit - b'0';
+        return Some(digit - b'0');
     }
     if digit == b'*' {
-        return 0x0A;
+        return Some(0x0A);
     }
     if digit == b'#' {
-        return 0x0B;
+        return Some(0x0B);
     }
     if b'a' <= digit && digit <= b'c' {
-        return digit - b'a' + 0x0C;
+        return Some(digit - b'a' + 0x0C);
     }
     if b'A' <= digit && digit <= b'C' {
-        return digit - b'A' + 0x0C;
+        return Some(digit - b'A' + 0x0C);
     }
-    16
+    None
+}
+
+// The half octet that a digit is written as. 9.
+fn nibble(digit: u8) -> Result<u8, Refusal>
+    ensures { mapped one_half (outcome_of result) ≡ written digit (built_in.half digit) }
+{
+    char_to_nibble(digit).ok_or(Refusal::InvalidBcdDigit(digit))
 }
 
 // The digit that a half octet reads as.
@@ -59,102 +66,63 @@ fn nibble_to_char(nibble: u8) -> u8
 }
 
 // How many octets `encode_gt_digits` writes.
-pub fn gt_digits_length(digits: &[u8]) -> Counted
-    ensures { counted_of result ≡ mapped length (write_digits built_in digits.now) }
+pub fn gt_digits_length(digits: &[u8]) -> Result<usize, Refusal>
+    ensures { outcome_of result ≡ mapped length (write_digits built_in digits.now) }
 {
     let n = digits.len();
     if 255 < n {
-        return Counted::Refused(Refusal::TooManyDigits(n));
+        return Err(Refusal::TooManyDigits(n));
     }
-    let mut i = 0;
-    while i < n {
-        let digit = digits[i];
-        if 15 < char_to_nibble(digit) {
-            return Counted::Refused(Refusal::InvalidBcdDigit(digit));
-        }
-        i += 1;
+    for &digit in digits {
+        nibble(digit)?;
     }
-    Counted::Count((n + 1) / 2)
+    Ok(n.div_ceil(2))
 }
 
 // Makes the octets of at most 255 digits, each straight from its two digits or from the odd last one. 9 at the first octet that
 // is no digit. The checker does not know an array's length behind a `&mut`, so it is required.
-fn pack_digits(digits: &[u8], packed: &mut [u8; 128]) -> Counted
+fn pack_digits(digits: &[u8], packed: &mut [u8; 128]) -> Result<usize, Refusal>
     requires digits_len_bound { length digits.now ≤ 255 }
     requires packed_len { length packed.old ≡ 128 }
-    ensures { Packed built_in digits.now (counted_of result) packed.new }
+    ensures { Packed built_in digits.now (outcome_of result) packed.new }
 {
     let given = digits.len();
     let whole = given / 2;
-    let mut k = 0;
-    while k < whole {
-        let first = digits[2 * k];
-        let second = digits[2 * k + 1];
-        let low = char_to_nibble(first);
-        let high = char_to_nibble(second);
-        if 15 < low {
-            return Counted::Refused(Refusal::InvalidBcdDigit(first));
-        }
-        if 15 < high {
-            return Counted::Refused(Refusal::InvalidBcdDigit(second));
-        }
+    for k in 0..whole {
+        let low = nibble(digits[2 * k])?;
+        let high = nibble(digits[2 * k + 1])?;
         packed[k] = high * 16 + low;
-        k += 1;
     }
     if 2 * whole < given {
-        let last = digits[2 * whole];
-        let low = char_to_nibble(last);
-        if 15 < low {
-            return Counted::Refused(Refusal::InvalidBcdDigit(last));
-        }
-        packed[whole] = low;
-        return Counted::Count(whole + 1);
+        packed[whole] = nibble(digits[2 * whole])?;
     }
-    Counted::Count(whole)
+    Ok(given.div_ceil(2))
 }
 
 // Writes digits, two to an octet. 11, then 9 at the first octet that is no digit, then 14.
-pub fn encode_gt_digits(digits: &[u8], out: &mut [u8]) -> Counted
-    ensures { delivered (counted_of result) out.new
+pub fn encode_gt_digits(digits: &[u8], out: &mut [u8]) -> Result<usize, Refusal>
+    ensures { delivered (outcome_of result) out.new
         ≡ deliver (write_digits built_in digits.now) out.old }
 {
     let given = digits.len();
     if 255 < given {
-        return Counted::Refused(Refusal::TooManyDigits(given));
+        return Err(Refusal::TooManyDigits(given));
     }
     let mut packed = [0u8; 128];
-    match pack_digits(digits, &mut packed) {
-        Counted::Refused(r) => Counted::Refused(r),
-        Counted::Count(n) => {
-            if out.len() < n {
-                return Counted::Refused(Refusal::OutputTooSmall(n));
-            }
-            octets::copy(&packed[..n], out);
-            Counted::Count(n)
-        }
+    let n = pack_digits(digits, &mut packed)?;
+    if out.len() < n {
+        return Err(Refusal::OutputTooSmall(n));
     }
+    octets::copy(&packed[..n], out);
+    Ok(n)
 }
 
-// The digit at place i, the low half of an octet first.
-fn digit_at(bytes: &[u8], i: usize) -> u8
-    requires { i < 2 * length bytes.now }
-    ensures { result ≡ built_in.char (get_or (halves bytes.now) i 0) }
-{
-    let byte = bytes[i / 2];
-    if i % 2 == 0 {
-        return nibble_to_char(byte % 16);
-    }
-    nibble_to_char(byte / 16)
-}
-
-// The digit at place i of octets that may end before it, where it reads as a half octet of 0.
+// The digit at place i, the low half of an octet first; beyond the octets a half octet of 0.
 pub fn digit_in(bytes: &[u8], i: usize) -> u8
     ensures { result ≡ built_in.char (get_or (halves bytes.now) i 0) }
 {
-    if bytes.len() <= i / 2 {
-        return nibble_to_char(0);
-    }
-    digit_at(bytes, i)
+    let byte = bytes.get(i / 2).copied().unwrap_or(0);
+    nibble_to_char(if i % 2 == 0 { byte % 16 } else { byte / 16 })
 }
 
 // Stores the first n digits.
@@ -164,37 +132,21 @@ fn unpack_digits(bytes: &[u8], n: usize, out: &mut [u8])
     ensures { delivered (accepted n) out.new
         ≡ deliver (accepted (digits_in built_in bytes.now n)) out.old }
 {
-    let mut i = 0;
-    while i < n {
-        out[i] = digit_at(bytes, i);
-        i += 1;
+    for i in 0..n {
+        out[i] = digit_in(bytes, i);
     }
-}
-
-// The smaller of two numbers.
-pub fn smaller(a: usize, b: usize) -> usize
-    ensures { result ≡ min a b }
-{
-    if a < b { a } else { b }
 }
 
 // Reads digits: as many as the count says, or as there are. 12.
-pub fn decode_gt_digits(bytes: &[u8], num_digits: u8) -> GtDigits
-    ensures { delivered (counted_of result.answer) result.digits
-        ≡ deliver (read_digits built_in bytes.now num_digits) (replicate 255 0) }
+pub fn decode_gt_digits(bytes: &[u8], num_digits: u8) -> Result<GtDigits, Refusal>
+    ensures { outcome_of result ≡ mapped digits_record (read_digits built_in bytes.now num_digits) }
 {
-    let mut digits = [0u8; 255];
     let given = bytes.len();
     if 1048576 < given {
-        return GtDigits {
-            answer: Counted::Refused(Refusal::TooManyOctets(given)),
-            digits,
-        };
+        return Err(Refusal::TooManyOctets(given));
     }
-    let n = smaller(num_digits as usize, 2 * given);
-    unpack_digits(bytes, n, &mut digits);
-    GtDigits {
-        answer: Counted::Count(n),
-        digits,
-    }
+    let count = usize::from(num_digits).min(2 * given);
+    let mut digits = [0u8; 255];
+    unpack_digits(bytes, count, &mut digits);
+    Ok(GtDigits { digits, count })
 }

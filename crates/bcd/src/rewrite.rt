@@ -1,18 +1,11 @@
 // Digits that are read and written again, as the settled form of a title has them: their octets stay as they are, but
 // for an odd last high half, which is written as 0.
-ghost use Rattle.std.specs.Prelude.{◌≡◌, [], ◌∷◌, ◌+◌, ◌*◌, ◌-◌, ◌≤◌, length, take};
+ghost use Rattle.std.specs.Prelude.{◌≡◌, [], ◌∷◌, ◌*◌, ◌≤◌, length, take};
 ghost use Rattle.bcd.specs.Outcome.{accepted, refused, pick, after, mapped};
-ghost use Rattle.bcd.specs.Answers.{counted_of};
+ghost use Rattle.bcd.specs.Answers.{outcome_of};
 ghost use Rattle.bcd.specs.Digits.{halves, pack, built_in, digits_in, read_digits, write_digits};
 
-use crate::error::{Counted, Refusal};
-
-// The larger of two half octets.
-fn larger(a: u8, b: u8) -> u8
-    ensures { result ≡ a + (b - a) }
-{
-    if a < b { b } else { a }
-}
+use crate::error::Refusal;
 
 // Whether one of the first n half octets is 15, which reads as `?` and is never written. The largest is kept, so that the loop
 // has no branch on an octet.
@@ -24,30 +17,27 @@ fn unknown(bytes: &[u8], n: usize) -> bool
 {
     let whole = n / 2;
     let mut most = 0;
-    let mut i = 0;
-    while i < whole {
-        let byte = bytes[i];
-        most = larger(most, larger(byte % 16, byte / 16));
-        i += 1;
+    for &byte in &bytes[..whole] {
+        most = most.max(byte % 16).max(byte / 16);
     }
-    if n % 2 == 0 {
-        return most == 15;
+    if n % 2 == 1 {
+        most = most.max(bytes[whole] % 16);
     }
-    larger(most, bytes[whole] % 16) == 15
+    most == 15
 }
 
 // How many octets digits take when they are read and written again. 12, 9.
-pub fn rewritten_digits_length(bytes: &[u8], num_digits: u8) -> Counted
-    ensures { counted_of result
+pub fn rewritten_digits_length(bytes: &[u8], num_digits: u8) -> Result<usize, Refusal>
+    ensures { outcome_of result
         ≡ mapped length (after (read_digits built_in bytes.now num_digits) (write_digits built_in)) }
 {
     let given = bytes.len();
     if 1048576 < given {
-        return Counted::Refused(Refusal::TooManyOctets(given));
+        return Err(Refusal::TooManyOctets(given));
     }
-    let n = crate::smaller(num_digits as usize, 2 * given);
+    let n = usize::from(num_digits).min(2 * given);
     if unknown(bytes, n) {
-        return Counted::Refused(Refusal::InvalidBcdDigit(b'?'));
+        return Err(Refusal::InvalidBcdDigit(b'?'));
     }
-    Counted::Count((n + 1) / 2)
+    Ok(n.div_ceil(2))
 }

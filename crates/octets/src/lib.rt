@@ -1,17 +1,16 @@
 // Octets copied into a lent buffer, and looked for in a text.
 #![tactic(auto)]
 
-ghost use Rattle.std.specs.Prelude.{◌≡◌, ◌≢◌, ◌≤◌, ◌<◌, ◌++◌, ℕ, length, take, drop, slice_index};
+ghost use Rattle.std.specs.Prelude.{◌≡◌, ◌≢◌, ◌≤◌, ◌<◌, ◌++◌, ℕ, min, length, take, drop, slice_index};
 
-// Copies octets to the front of a buffer that has room for them, and answers how many they are.
+// Copies octets to the front of a buffer, as many as fit, and answers how many they are.
 pub fn copy(from: &[u8], out: &mut [u8]) -> usize
-    requires { length from.now ≤ length out.old }
-    ensures count { result ≡ length from.now }
-    ensures copied { out.new
-        ≡ take (length from.now) from.now ++ drop (length from.now) out.old }
+    ensures count { result ≡ min (length from.now) (length out.old) }
+    ensures copied { out.new ≡ take (length out.old) from.now ++ drop (length from.now) out.old }
+    ensures whole { length from.now ≤ length out.old → out.new ≡ from.now ++ drop (length from.now) out.old }
 {
-    let n = from.len();
-    out[..n].copy_from_slice(from);
+    let n = from.len().min(out.len());
+    out[..n].copy_from_slice(&from[..n]);
     n
 }
 

@@ -3,17 +3,12 @@
 use Rattle.std.specs.Prelude.{ℕ, ◌+◌, List, [], ◌∷◌, map, length, get_or, leb}
 use Rattle.std.specs.Prelude.{Option, None, Some}
 use Rattle.bcd.specs.Outcome.{Outcome, accepted, refused, pick, mapped}
-use Rattle.bcd.specs.Answers.{refusal_of}
 use Rattle.parameter.specs.declared.Place.{Place}
 use Rattle.parameter.specs.Parameter.{four_in}
 use Rattle.parameter.specs.Walk.{valued}
 use Rattle.parameter.specs.Table.{Table, tabulate, find_param}
-use Rattle.address.specs.Listing.{address_places, no_address, Listed, listed, list_address}
-use Rattle.lookup.specs.declared.Octet.{Octet}
-use Rattle.lookup.specs.declared.Octet.TheVariants as O
+use Rattle.address.specs.Listing.{address_places, Listed, listed, list_address}
 use Rattle.lookup.specs.declared.SccpCause.{SccpCause}
-use Rattle.lookup.specs.declared.Cause.{Cause}
-use Rattle.lookup.specs.declared.Cause.TheVariants as C
 
 -- What a value of four octets or more reads as; nothing under four.
 abbrev pub of_four : {A : Type 0} → (List ℕ → A) → List ℕ → Option A
@@ -75,13 +70,13 @@ moved base p = record { tag = p.tag; start = base + p.start; length = p.length }
 unfoldable pub list_address_at : (base : ℕ) → List ℕ → Table → Listed
 list_address_at base v held =
     let alone : Listed = list_address v held in
-    listed alone.answer alone.address (tabulate (mapped (map (moved base)) (address_places v)) held).table
+    listed alone.answer (tabulate (mapped (map (moved base)) (address_places v)) held).table
 
 -- An address parameter that was looked for: 15, then 7 where there is none, then its reading's refusals (document 01,
 -- 'Order'). A refusal leaves the table as it was.
 unfoldable pub address_found : (tag : ℕ) → List ℕ → Outcome (Option Place) → Table → Listed
-address_found tag values (refused number vs) held = listed (refused number vs) no_address held
-address_found tag values (accepted None) held = listed (refused 7 (tag ∷ [])) no_address held
+address_found tag values (refused number vs) held = listed (refused number vs) held
+address_found tag values (accepted None) held = listed (refused 7 (tag ∷ [])) held
 address_found tag values (accepted (Some p)) held = list_address_at p.start (valued values p).value held
 
 -- Source and destination address (RFC 3868, 3.10.2 and 3.10.3).
@@ -90,14 +85,3 @@ source_address values t count = address_found 0x0102 values (find_param values t
 
 abbrev pub destination_address : List ℕ → Table → (count : ℕ) → Table → Listed
 destination_address values t count = address_found 0x0103 values (find_param values t count 0x0103)
-
--- Which outcome each answer is.
-abbrev pub octet_of : Octet → Outcome (Option ℕ)
-octet_of (O.Value n) = accepted (Some n)
-octet_of O.None = accepted None
-octet_of (O.Refused r) = refusal_of r
-
-abbrev pub cause_of : Cause → Outcome (Option SccpCause)
-cause_of (C.Value s) = accepted (Some s)
-cause_of C.None = accepted None
-cause_of (C.Refused r) = refusal_of r

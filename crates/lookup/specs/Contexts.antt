@@ -3,13 +3,10 @@
 use Rattle.std.specs.Prelude.{ℕ, ◌*◌, ◌%◌, ◌<◌, ◌≡◌, Bool, true, false, ◌&&◌, List, [], ◌∷◌, length, get_or, drop, eqb, ltb}
 use Rattle.std.specs.Prelude.{Option, None, Some}
 use Rattle.bcd.specs.Outcome.{Outcome, accepted, mapped, every, among}
-use Rattle.bcd.specs.Answers.{refusal_of}
 use Rattle.parameter.specs.declared.Place.{Place}
 use Rattle.parameter.specs.Parameter.{four_in}
 use Rattle.parameter.specs.Walk.{valued}
 use Rattle.parameter.specs.Table.{Table, find_param}
-use Rattle.lookup.specs.declared.contexts.Membership.{Membership}
-use Rattle.lookup.specs.declared.contexts.Membership.TheVariants as M
 
 -- The routing contexts that a value lists: four octets each, the high octet first. An unfinished group is none.
 unfoldable pub contexts_of : List ℕ → List ℕ
@@ -31,12 +28,6 @@ all_in_set_at set values (Some p) = all_in_set set (valued values p).value
 -- Of the first Routing Context; 15 first, as for any accessor.
 unfoldable pub contexts_in : List ℕ → Table → (count : ℕ) → (set : List ℕ) → Outcome Bool
 contexts_in values t count set = mapped (all_in_set_at set values) (find_param values t count 0x0006)
-
--- Which outcome each answer is.
-abbrev pub membership_of : Membership → Outcome Bool
-membership_of M.Yes = accepted true
-membership_of M.No = accepted false
-membership_of (M.Refused r) = refusal_of r
 
 -- A number stands at a place of a set.
 abbrev pub Member : (set : List ℕ) → ℕ → Type 0

@@ -4,10 +4,9 @@ use Rattle.std.specs.Prelude.{ℕ, List}
 use Rattle.std.specs.Prelude.{Option}
 use Rattle.bcd.specs.Outcome.{Outcome}
 use Rattle.parameter.specs.Table.{Table}
-use Rattle.parameter.specs.Answers.{number_of}
-use Rattle.address.specs.Titles.{verdict_of}
+use Rattle.bcd.specs.Answers.{outcome_of}
 use Rattle.address.specs.Listing.{Listed, listed}
-use Rattle.lookup.specs.Accessors.{routing_context, protocol_class, sequence_control, ss7_hop_count, sccp_cause, source_address, destination_address, octet_of, cause_of}
+use Rattle.lookup.specs.Accessors.{routing_context, protocol_class, sequence_control, ss7_hop_count, sccp_cause, source_address, destination_address}
 use Rattle.lookup.specs.declared.SccpCause.{SccpCause}
 use Rattle.lookup.specs.declared.screen.Screen.{Screen}
 
@@ -35,11 +34,11 @@ handling values t count source destination = record {
 -- What a screen tells, beside what the two tables hold.
 abbrev pub screen_of : Screen → (source destination : Table) → Handling
 screen_of s source destination = record {
-  context = number_of s.routing_context;
-  class = octet_of s.protocol_class;
-  control = number_of s.sequence_control;
-  hops = octet_of s.ss7_hop_count;
-  cause = cause_of s.sccp_cause;
-  source = listed (verdict_of s.source_address.verdict) s.source_address.address source;
-  destination = listed (verdict_of s.destination_address.verdict) s.destination_address.address destination;
+  context = outcome_of s.routing_context;
+  class = outcome_of s.protocol_class;
+  control = outcome_of s.sequence_control;
+  hops = outcome_of s.ss7_hop_count;
+  cause = outcome_of s.sccp_cause;
+  source = listed (outcome_of s.source_address) source;
+  destination = listed (outcome_of s.destination_address) destination;
 }

@@ -4,7 +4,7 @@ use Rattle.std.specs.Prelude.{Option, None, Some}
 use Rattle.bcd.specs.Outcome.{accepted, refused}
 use Rattle.parameter.specs.Parameter.{param}
 use Rattle.parameter.specs.Table.{Table, table}
-use Rattle.address.specs.Listing.{address_record, no_address, Listed, listed}
+use Rattle.address.specs.Listing.{address_record, Listed, listed}
 use Rattle.lookup.specs.Screen.{Handling}
 
 -- Five values of four octets; an address with an other sub-parameter, 0x8005, of no octets; one with an SSN, 6, and the same.
@@ -36,7 +36,7 @@ abbrev pub room_for_one : Table
 room_for_one = table (9 ∷ []) (9 ∷ []) (9 ∷ [])
 
 abbrev pub room_for_none : Table
-room_for_none = table (9 ∷ []) [] (9 ∷ [])
+room_for_none = []
 
 -- A routing context and two addresses, beside the other numbers as the first records have them.
 abbrev pub worked_fields : Option ℕ → (source destination : Listed) → Handling
@@ -52,19 +52,19 @@ worked_fields context source destination = record {
 
 abbrev pub worked_source : Listed
 worked_source =
-    listed (accepted tt)
-    (address_record (record { routing = 1; gt = false; pc = false; ssn = false; title = None; code = None; sub = None; others = param 0x8005 [] ∷ [] }))
+    listed
+    (accepted (address_record (record { routing = 1; gt = false; pc = false; ssn = false; title = None; code = None; sub = None; others = param 0x8005 [] ∷ [] })))
     (table (0x8005 ∷ []) (28 ∷ []) (0 ∷ []))
 
 abbrev pub worked_destination : Listed
 worked_destination =
-    listed (accepted tt)
-    (address_record (record { routing = 2; gt = false; pc = false; ssn = false; title = None; code = None; sub = Some 6; others = param 0x8005 [] ∷ [] }))
+    listed
+    (accepted (address_record (record { routing = 2; gt = false; pc = false; ssn = false; title = None; code = None; sub = Some 6; others = param 0x8005 [] ∷ [] })))
     (table (0x8005 ∷ []) (44 ∷ []) (0 ∷ []))
 
 -- An address that was refused, with its table as it was.
 abbrev pub refused_with : (number : ℕ) → List ℕ → Table → Listed
-refused_with number vs held = listed (refused number vs) no_address held
+refused_with number vs held = listed (refused number vs) held
 
 -- 15 in all seven.
 abbrev pub all_outside : (source destination : Table) → Handling

@@ -1,78 +1,69 @@
 // All handling fields of a message from one pass over its records.
 ghost use Rattle.std.specs.Prelude.{◌≡◌};
-ghost use Rattle.parameter.specs.Table.{table};
 ghost use Rattle.lookup.specs.Screen.{handling, screen_of};
 
-use crate::pass::{keep_first, kept};
-use crate::{Cause, Octet, address_at, fourth_octet, last_octets, number_at};
-use address::decode::AddressRead;
-use parameter::Number;
+use crate::pass::first_of;
+use crate::{SccpCause, address_at, cause_at, number_at, octet_at};
+use address::SuaAddress;
+use bcd::error::Refusal;
+use parameter::Place;
+use parameter::table::Records;
 use parameter::tags::{DESTINATION_ADDRESS, SOURCE_ADDRESS};
 
 // The handling fields, each what its own accessor answers.
 #[derive(Clone, Copy)]
 pub struct Screen {
-    pub routing_context: Number,
-    pub protocol_class: Octet,
-    pub sequence_control: Number,
-    pub ss7_hop_count: Octet,
-    pub sccp_cause: Cause,
-    pub source_address: AddressRead,
-    pub destination_address: AddressRead,
+    pub routing_context: Result<Option<u32>, Refusal>,
+    pub protocol_class: Result<Option<u8>, Refusal>,
+    pub sequence_control: Result<Option<u32>, Refusal>,
+    pub ss7_hop_count: Result<Option<u8>, Refusal>,
+    pub sccp_cause: Result<Option<SccpCause>, Refusal>,
+    pub source_address: Result<SuaAddress, Refusal>,
+    pub destination_address: Result<SuaAddress, Refusal>,
+}
+
+// One refusal in every field.
+fn refused(r: Refusal) -> Screen {
+    Screen {
+        routing_context: Err(r),
+        protocol_class: Err(r),
+        sequence_control: Err(r),
+        ss7_hop_count: Err(r),
+        sccp_cause: Err(r),
+        source_address: Err(r),
+        destination_address: Err(r),
+    }
 }
 
 // Reads all handling fields, and each address into a table of its own. 15 in every field; 7 and an address's refusals in
 // that address's alone.
 pub fn handling_fields(
-    values: &[u8],
-    tags: &[u16],
-    starts: &[usize],
-    lengths: &[usize],
+    lent: Records<'_>,
     count: usize,
-    source_tags: &mut [u16],
-    source_starts: &mut [usize],
-    source_lengths: &mut [usize],
-    destination_tags: &mut [u16],
-    destination_starts: &mut [usize],
-    destination_lengths: &mut [usize],
+    source_others: &mut [Place],
+    destination_others: &mut [Place],
 ) -> Screen
-    ensures { screen_of result
-        (table source_tags.new source_starts.new source_lengths.new)
-        (table destination_tags.new destination_starts.new destination_lengths.new)
-        ≡ handling values.now (table tags.now starts.now lengths.now) count
-        (table source_tags.old source_starts.old source_lengths.old)
-        (table destination_tags.old destination_starts.old destination_lengths.old) }
+    ensures { screen_of result source_others.new destination_others.new
+        ≡ handling lent.entry.values.now lent.entry.rows.now count source_others.old destination_others.old }
 {
-    let mut first = [count; 7];
-    let outside = keep_first(values, tags, starts, lengths, count, &mut first);
-    let context = kept(tags, starts, lengths, count, outside, first[0]);
-    let class = kept(tags, starts, lengths, count, outside, first[1]);
-    let control = kept(tags, starts, lengths, count, outside, first[2]);
-    let hops = kept(tags, starts, lengths, count, outside, first[3]);
-    let cause = kept(tags, starts, lengths, count, outside, first[4]);
-    let source = kept(tags, starts, lengths, count, outside, first[5]);
-    let destination = kept(tags, starts, lengths, count, outside, first[6]);
+    let first = match first_of(lent, count) {
+        Ok(first) => first,
+        Err(r) => return refused(r),
+    };
+    let values = lent.values;
+    let [context, class, control, hops, cause, source, destination] = first;
     Screen {
-        routing_context: number_at(values, context),
-        protocol_class: fourth_octet(number_at(values, class)),
-        sequence_control: number_at(values, control),
-        ss7_hop_count: fourth_octet(number_at(values, hops)),
-        sccp_cause: last_octets(number_at(values, cause)),
-        source_address: address_at(
-            values,
-            source,
-            SOURCE_ADDRESS,
-            source_tags,
-            source_starts,
-            source_lengths,
-        ),
+        routing_context: Ok(number_at(values, context)),
+        protocol_class: Ok(octet_at(values, class)),
+        sequence_control: Ok(number_at(values, control)),
+        ss7_hop_count: Ok(octet_at(values, hops)),
+        sccp_cause: Ok(cause_at(values, cause)),
+        source_address: address_at(values, source, SOURCE_ADDRESS, source_others),
         destination_address: address_at(
             values,
             destination,
             DESTINATION_ADDRESS,
-            destination_tags,
-            destination_starts,
-            destination_lengths,
+            destination_others,
         ),
     }
 }

@@ -7,11 +7,10 @@ use Rattle.parameter.specs.declared.Place.{Place}
 use Rattle.parameter.specs.Walk.{valued}
 use Rattle.parameter.specs.Table.{Table, find_param}
 use Rattle.pieces.specs.PointCodes.{codes_in}
-pub use Rattle.lookup.specs.Accessors.{of_four, read_at, fourth, cause_in, routing_context, protocol_class, sequence_control, ss7_hop_count, sccp_cause, data_at, shown, data_part, moved, source_address, destination_address, octet_of, cause_of}
+pub use Rattle.lookup.specs.Accessors.{of_four, read_at, fourth, cause_in, routing_context, protocol_class, sequence_control, ss7_hop_count, sccp_cause, data_at, shown, data_part, moved, source_address, destination_address}
 unfoldable pub use Rattle.lookup.specs.Accessors.{first_read, list_address_at, address_found}
 pub use Rattle.lookup.specs.Screen.{Handling, handling, screen_of}
 unfoldable pub use Rattle.lookup.specs.Contexts.{contexts_in}
-pub use Rattle.lookup.specs.Contexts.{membership_of}
 
 -- Affected point codes (RFC 3868, 3.9): those of the first such parameter; none where there is no such parameter.
 abbrev pub codes_at : List ℕ → Option Place → List ℕ

@@ -1,5 +1,5 @@
 -- What comes back through reading and the accessors of what was written.
-use Rattle.std.specs.Prelude.{ℕ, ◌≡◌, Bool, ◌⊎◌, List, [], ◌∷◌, map, length}
+use Rattle.std.specs.Prelude.{ℕ, ◌≡◌, ◌⊎◌, List, [], ◌∷◌, map, length}
 use Rattle.std.specs.Prelude.{Option, Some, option_map}
 use Rattle.bcd.specs.Outcome.{Outcome, accepted, refused, after}
 use Rattle.bcd.specs.Digits.{fold, built_in}
@@ -8,10 +8,9 @@ use Rattle.parameter.specs.declared.Place.{Place}
 use Rattle.parameter.specs.Walk.{valued}
 use Rattle.parameter.specs.Table.{Table}
 use Rattle.address.specs.Address.{Title, Address, read_address, write_address}
-use Rattle.address.specs.Records.{flagged}
 use Rattle.address.specs.Given.{encode_address}
 use Rattle.address.specs.declared.SuaAddress.{SuaAddress}
-use Rattle.address.specs.Listing.{no_address, Listed, listed}
+use Rattle.address.specs.Listing.{Listed, listed}
 use Rattle.address.specs.Standing.{Stands}
 use Rattle.message.specs.declared.types.MessageType.{MessageType}
 use Rattle.message.specs.Message.{message, read_message}
@@ -48,19 +47,19 @@ pub record ReadsWith (m : MessageType) (ps : (source destination : List ℕ) →
   pub reads : read_message os ≡ accepted (message m (ps source destination))
 
 -- The arguments of a CLDT, by the accessors' definitions; s and d are the octets of its addresses.
-pub record CldtBack (context class : ℕ) (s d : List ℕ) (sequence : ℕ) (has_hop : Bool) (hop : ℕ) (octets values : List ℕ) (t : Table) (count : ℕ) : Type 0 where
+pub record CldtBack (context class : ℕ) (s d : List ℕ) (sequence : ℕ) (hop : Option ℕ) (octets values : List ℕ) (t : Table) (count : ℕ) : Type 0 where
   pub context_back : routing_context values t count ≡ accepted (Some context)
   pub class_back : protocol_class values t count ≡ accepted (Some class)
   pub source_back : first_read Some 0x0102 values t count ≡ accepted (Some s)
   pub destination_back : first_read Some 0x0103 values t count ≡ accepted (Some d)
   pub sequence_back : sequence_control values t count ≡ accepted (Some sequence)
-  pub hop_back : ss7_hop_count values t count ≡ accepted (flagged has_hop hop)
+  pub hop_back : ss7_hop_count values t count ≡ accepted hop
   pub data_back : data_part values t count ≡ octets
 
 -- An address read through an accessor, from values and into a table: the record, with its records in the table over the
 -- values, stands for the address; or the table is too small, and stays as it was.
 abbrev pub Shows : (values : List ℕ) → Address → Table → Listed → Type 0
-Shows values a held l = Stands values a l ⊎ (l ≡ listed (refused 13 (length a.others ∷ [])) no_address held)
+Shows values a held l = Stands values a l ⊎ (l ≡ listed (refused 13 (length a.others ∷ [])) held)
 
 -- The parameter that an accessor found, and what its record and table are written as over the same values: the address read
 -- and written again.

@@ -1,7 +1,7 @@
 -- The constructors of messages (message.rs; document 01, module 6): a message's type and its parameters in the Rust's order,
 -- written. Refused: the source's, the destination's, further 10 in order, 12 (document 01, 'Order'). An argument that may be
--- absent is a flag and a value; an address is a record with its own values and table.
-use Rattle.std.specs.Prelude.{ℕ, Bool, List, [], ◌∷◌, ◌++◌}
+-- absent is an option; an address is a record with its own values and table.
+use Rattle.std.specs.Prelude.{ℕ, List, [], ◌∷◌, ◌++◌, Option}
 use Rattle.bcd.specs.Outcome.{Outcome, after}
 use Rattle.parameter.specs.Parameter.{Param, param}
 use Rattle.parameter.specs.Table.{Table}
@@ -26,14 +26,14 @@ abbrev pub cldt :
     (context class : ℕ)
     → SuaAddress → (source_values : List ℕ) → Table
     → SuaAddress → (destination_values : List ℕ) → Table
-    → (sequence : ℕ) → (has_hop : Bool) → (hop : ℕ) → (octets : List ℕ)
+    → (sequence : ℕ) → (hop : Option ℕ) → (octets : List ℕ)
     → Outcome (List ℕ)
-cldt context class source sv st destination dv dt sequence has_hop hop octets =
+cldt context class source sv st destination dv dt sequence hop octets =
     after (encode_address_as 0x0102 source sv st) (λ s.
     after (encode_address_as 0x0103 destination dv dt) (λ d.
     written M.Cldt
     (number 0x0006 context ∷ octet 0x0115 class ∷ param 0x0102 s ∷ param 0x0103 d ∷ number 0x0116 sequence
-    ∷ given has_hop (octet 0x0101 hop) ++ param 0x010B octets ∷ [])))
+    ∷ given (octet 0x0101) hop ++ param 0x010B octets ∷ [])))
 
 -- CLDR (RFC 3868, 3.2.2): routing context, SCCP cause, source and destination address, data. The cause has two reserved octets,
 -- its type and its value (RFC 3868, 3.10.6).
@@ -41,46 +41,44 @@ abbrev pub cldr :
     (context cause_type cause_value : ℕ)
     → SuaAddress → (source_values : List ℕ) → Table
     → SuaAddress → (destination_values : List ℕ) → Table
-    → (has_data : Bool) → (octets : List ℕ)
+    → (octets : Option (List ℕ))
     → Outcome (List ℕ)
-cldr context cause_type cause_value source sv st destination dv dt has_data octets =
+cldr context cause_type cause_value source sv st destination dv dt octets =
     after (encode_address_as 0x0102 source sv st) (λ s.
     after (encode_address_as 0x0103 destination dv dt) (λ d.
     written M.Cldr
     (number 0x0006 context ∷ param 0x0106 (0 ∷ 0 ∷ cause_type ∷ cause_value ∷ []) ∷ param 0x0102 s ∷ param 0x0103 d
-    ∷ given has_data (param 0x010B octets))))
+    ∷ given (param 0x010B) octets)))
 
 -- ASP Up (RFC 3868, 3.5): ASP identifier, info string.
-abbrev pub asp_up : (has_id : Bool) → (id : ℕ) → (has_info : Bool) → (info : List ℕ) → Outcome (List ℕ)
-asp_up has_id id has_info info = written M.AspUp (given has_id (number 0x0011 id) ++ given has_info (param 0x0004 info))
+abbrev pub asp_up : (id : Option ℕ) → (info : Option (List ℕ)) → Outcome (List ℕ)
+asp_up id info = written M.AspUp (given (number 0x0011) id ++ given (param 0x0004) info)
 
 -- ASP Up Ack, ASP Down, ASP Down Ack (RFC 3868, 3.5): info string.
-abbrev pub info_only : MessageType → (has_info : Bool) → (info : List ℕ) → Outcome (List ℕ)
-info_only m has_info info = written m (given has_info (param 0x0004 info))
+abbrev pub info_only : MessageType → (info : Option (List ℕ)) → Outcome (List ℕ)
+info_only m info = written m (given (param 0x0004) info)
 
 -- ASP Active, ASP Active Ack (RFC 3868, 3.6): traffic mode type, routing context.
-abbrev pub traffic_and_rc : MessageType → (has_mode : Bool) → (mode : ℕ) → (has_context : Bool) → (context : ℕ) → Outcome (List ℕ)
-traffic_and_rc m has_mode mode has_context context =
-    written m (given has_mode (number 0x000B mode) ++ given has_context (number 0x0006 context))
+abbrev pub traffic_and_rc : MessageType → (mode context : Option ℕ) → Outcome (List ℕ)
+traffic_and_rc m mode context = written m (given (number 0x000B) mode ++ given (number 0x0006) context)
 
 -- ASP Inactive, ASP Inactive Ack (RFC 3868, 3.6): routing context.
-abbrev pub rc_only : MessageType → (has_context : Bool) → (context : ℕ) → Outcome (List ℕ)
-rc_only m has_context context = written m (given has_context (number 0x0006 context))
+abbrev pub rc_only : MessageType → (context : Option ℕ) → Outcome (List ℕ)
+rc_only m context = written m (given (number 0x0006) context)
 
 -- Heartbeat, Heartbeat Ack (RFC 3868, 3.5): heartbeat data.
-abbrev pub heartbeat_like : MessageType → (has_data : Bool) → (octets : List ℕ) → Outcome (List ℕ)
-heartbeat_like m has_data octets = written m (given has_data (param 0x0009 octets))
+abbrev pub heartbeat_like : MessageType → (octets : Option (List ℕ)) → Outcome (List ℕ)
+heartbeat_like m octets = written m (given (param 0x0009) octets)
 
 -- Error (RFC 3868, 3.7): error code, routing context, diagnostic information.
-abbrev pub error_message : (code : ℕ) → (has_context : Bool) → (context : ℕ) → (has_info : Bool) → (info : List ℕ) → Outcome (List ℕ)
-error_message code has_context context has_info info =
-    written M.Error (number 0x000C code ∷ given has_context (number 0x0006 context) ++ given has_info (param 0x0007 info))
+abbrev pub error_message : (code : ℕ) → (context : Option ℕ) → (info : Option (List ℕ)) → Outcome (List ℕ)
+error_message code context info =
+    written M.Error (number 0x000C code ∷ given (number 0x0006) context ++ given (param 0x0007) info)
 
 -- Notify (RFC 3868, 3.7): status, ASP identifier, routing context.
-abbrev pub notify : (status : ℕ) → (has_id : Bool) → (id : ℕ) → (has_context : Bool) → (context : ℕ) → Outcome (List ℕ)
-notify status has_id id has_context context =
-    written M.Notify (number 0x000D status ∷ given has_id (number 0x0011 id) ++ given has_context (number 0x0006 context))
+abbrev pub notify : (status : ℕ) → (id context : Option ℕ) → Outcome (List ℕ)
+notify status id context = written M.Notify (number 0x000D status ∷ given (number 0x0011) id ++ given (number 0x0006) context)
 
 -- DUNA, DAVA, DAUD (RFC 3868, 3.4): routing context, affected point codes.
-abbrev pub snm : MessageType → (has_context : Bool) → (context : ℕ) → (codes : List ℕ) → Outcome (List ℕ)
-snm m has_context context codes = written m (given has_context (number 0x0006 context) ++ affected codes ∷ [])
+abbrev pub snm : MessageType → (context : Option ℕ) → (codes : List ℕ) → Outcome (List ℕ)
+snm m context codes = written m (given (number 0x0006) context ++ affected codes ∷ [])

@@ -1,17 +1,9 @@
 -- A message whose parameters stand in a lent table (document 01, module 5).
 use Rattle.std.specs.Prelude.{ℕ, List}
-use Rattle.bcd.specs.Outcome.{Outcome, accepted, after, mapped}
-use Rattle.bcd.specs.Answers.{refusal_of}
+use Rattle.bcd.specs.Outcome.{Outcome, after, mapped}
 use Rattle.parameter.specs.Table.{Table, Tabulated, tabulate}
 use Rattle.message.specs.declared.SuaMessage.{SuaMessage}
-use Rattle.message.specs.declared.MessageRead.{MessageRead}
-use Rattle.message.specs.declared.MessageRead.TheVariants as MR
 use Rattle.message.specs.Message.{read_header, message_places}
-
--- Which outcome each answer is.
-abbrev pub message_read_of : MessageRead → Outcome SuaMessage
-message_read_of (MR.Message m) = accepted m
-message_read_of (MR.Refused r) = refusal_of r
 
 -- What reading a message into a lent table answers, and what the table then holds.
 pub record Listed : Type 0 where

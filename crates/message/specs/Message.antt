@@ -1,14 +1,11 @@
 -- The common header and a message (RFC 3868, 3.1).
 use Rattle.std.specs.Prelude.{ℕ, ◌+◌, List, [], ◌∷◌, ◌++◌, length, get_or, drop, leb, eqb}
 use Rattle.bcd.specs.Outcome.{Outcome, accepted, after, demand, mapped, each, bounded}
-use Rattle.bcd.specs.Answers.{refusal_of}
 use Rattle.parameter.specs.declared.Place.{Place}
 use Rattle.parameter.specs.Parameter.{Param, run_octets, encode_param, writable, four, four_in}
 use Rattle.parameter.specs.Walk.{places, parameters}
 use Rattle.message.specs.declared.types.MessageType.{MessageType}
 use Rattle.message.specs.declared.header.CommonHeader.{CommonHeader}
-use Rattle.message.specs.declared.header.HeaderRead.{HeaderRead}
-use Rattle.message.specs.declared.header.HeaderRead.TheVariants as HR
 use Rattle.message.specs.Types.{class_of, type_of, from_class_type}
 
 -- The version is 1 (RFC 3868, 3.1.1).
@@ -55,8 +52,3 @@ message_octets m ps = header_octets (header_with m (8 + length (run_octets ps)))
 -- Writing a message: 10 at the first value that is too long, then 12 (document 01, 'Order').
 unfoldable pub write_message : Message → Outcome (List ℕ)
 write_message m = after (each encode_param m.params) (λ _. writable (message_octets m.type m.params))
-
--- Which outcome each answer is.
-abbrev pub header_read_of : HeaderRead → Outcome CommonHeader
-header_read_of (HR.Header h) = accepted h
-header_read_of (HR.Refused r) = refusal_of r

@@ -1,16 +1,10 @@
 -- Message classes and message types (RFC 3868, 3.1.2 and 3.1.3).
 use Rattle.std.specs.Prelude.{ℕ, zero, suc, ◌+◌, Bool, ◌&&◌, List, [], ◌∷◌, eqb}
 use Rattle.bcd.specs.Outcome.{Outcome, accepted, refused, pick}
-use Rattle.bcd.specs.Answers.{refusal_of}
 use Rattle.message.specs.declared.types.MessageClass.{MessageClass}
 use Rattle.message.specs.declared.types.MessageClass.TheVariants as C
 use Rattle.message.specs.declared.types.MessageType.{MessageType}
 use Rattle.message.specs.declared.types.MessageType.TheVariants as T
-use Rattle.message.specs.declared.types.ClassAndType.{ClassAndType}
-use Rattle.message.specs.declared.types.ClassRead.{ClassRead}
-use Rattle.message.specs.declared.types.ClassRead.TheVariants as CR
-use Rattle.message.specs.declared.types.TypeRead.{TypeRead}
-use Rattle.message.specs.declared.types.TypeRead.TheVariants as TR
 
 -- The first of a list that passes a test, else another outcome.
 abbrev pub first : {A : Type 0} → (A → Bool) → List A → Outcome A → Outcome A
@@ -35,7 +29,7 @@ unfoldable pub from_octet : ℕ → Outcome MessageClass
 from_octet octet = first (λ c. eqb octet (class_octet c)) message_classes (refused 3 (octet ∷ []))
 
 -- The octets of a message type: its class and its type (RFC 3868, 3.1.3).
-abbrev pub class_and_type : MessageType → ClassAndType
+abbrev pub class_and_type : MessageType → ℕ × ℕ
 class_and_type T.Error = (0, 0)
 class_and_type T.Notify = (0, 1)
 class_and_type T.Duna = (2, 1)
@@ -92,15 +86,6 @@ message_types =
 unfoldable pub from_class_type : (class type : ℕ) → Outcome MessageType
 from_class_type class type =
     first (λ m. eqb class (class_of m) && eqb type (type_of m)) message_types (refused 4 (class ∷ type ∷ []))
-
--- Which outcome each answer is.
-abbrev pub class_read_of : ClassRead → Outcome MessageClass
-class_read_of (CR.Class c) = accepted c
-class_read_of (CR.Refused r) = refusal_of r
-
-abbrev pub type_read_of : TypeRead → Outcome MessageType
-type_read_of (TR.Type m) = accepted m
-type_read_of (TR.Refused r) = refusal_of r
 
 -- 1 for a pair that is known, else 0.
 abbrev pub known : Outcome MessageType → ℕ

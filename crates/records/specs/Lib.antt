@@ -1,4 +1,3 @@
--- The definitions, in the order to read them. `Steps` holds what only contracts of private functions cite.
-pub mod Rows
+-- The definitions, in the order to read them.
+pub mod Columns
 pub mod Reader
-pub mod Steps

@@ -1,7 +1,10 @@
 -- A reader that carries a message's octets (document 01, 'Rust forms that cannot stay').
-use Rattle.std.specs.Prelude.{ℕ, ◌≡◌, List, [], ◌∷◌, length}
+use Rattle.std.specs.Prelude.{ℕ, ◌+◌, ◌-◌, ◌≡◌, List, [], ◌∷◌, length}
+use Rattle.std.specs.Prelude.{Option, None, Some, Result, Ok, Err}
 use Rattle.std.specs.Borrow.{Bor}
 use Rattle.bcd.specs.Outcome.{Outcome, accepted, refused, after, mapped, bounded}
+use Rattle.bcd.specs.Answers.{refusal_of}
+use Rattle.bcd.specs.declared.error.Refusal.{Refusal}
 use Rattle.parameter.specs.Parameter.{Param}
 use Rattle.parameter.specs.declared.Place.{Place}
 use Rattle.parameter.specs.Walk.{Walked, ended, found, step_at, valued}
@@ -31,6 +34,21 @@ moved_to (refused n vs) at = at
 -- The reader moved on: the same octets, at the next position.
 abbrev pub moved_on : Reader → Reader
 moved_on r = record { bytes = r.bytes; at = moved_to (next_of r) r.at }
+
+-- What a step answers of what was found: the place and the reader moved on; none at the end.
+abbrev pub given : Reader → Walked → Option (Place × Reader)
+given r ended = None
+given r (found p next) = Some (p, record { bytes = r.bytes; at = next })
+
+-- What the iterator gives, and the reader behind it: as a step, but a refusal leaves no octets, so that it is the last item.
+abbrev pub Gives : Reader → Option (Result Place Refusal) → Reader → Type 0
+Gives r None s = (next_of r ≡ accepted ended) × (s ≡ r)
+Gives r (Some (Ok p)) s = (next_of r ≡ accepted (found p s.at)) × (s ≡ moved_on r)
+Gives r (Some (Err e)) s = (next_of r ≡ refusal_of e) × (s.bytes.now ≡ []) × (s.at ≡ r.at)
+
+-- A bound on how many items come.
+abbrev pub ahead : Reader → ℕ
+ahead r = length r.bytes.now + (length r.bytes.now - r.at)
 
 -- What stepping a reader to its end gives: each parameter that it finds, then the end or a refusal.
 pub data Steps : Reader → Outcome (List Param) → Type 0 where

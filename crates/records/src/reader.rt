@@ -1,117 +1,39 @@
 // A reader that carries a message's octets and gives the next parameter (document 01, 'Rust forms that cannot stay').
-ghost use Rattle.std.specs.Prelude.{◌≡◌, length};
-ghost use Rattle.bcd.specs.Outcome.{bounded};
-ghost use Rattle.parameter.specs.Walk.{step_at};
-ghost use Rattle.parameter.specs.Answers.{step_of};
-ghost use Rattle.message.specs.Message.{read_header, header_read_of};
-ghost use Rattle.records.specs.Reader.{start_of, moved_to, opened, next_of, moved_on};
+ghost use Rattle.std.specs.Prelude.{◌≡◌};
+ghost use Rattle.std.specs.Iterator.{at_most};
+ghost use Rattle.bcd.specs.Outcome.{mapped};
+ghost use Rattle.bcd.specs.Answers.{outcome_of};
+ghost use Rattle.message.specs.Message.{read_header};
+ghost use Rattle.records.specs.Reader.{opened, next_of, given, Gives, ahead};
 
-use message::header::{CommonHeader, HeaderRead};
-use parameter::{Cursor, Step};
+use bcd::error::Refusal;
+use message::header::CommonHeader;
+use parameter::{Cursor, Place};
 
 // A message's octets, and the position of the next parameter.
-#[derive(Clone, Copy)]
+#[derive(Clone, Copy, Debug)]
 pub struct Reader<'a> {
     pub bytes: &'a [u8],
     pub at: usize,
 }
 
-// The header that was read, or its refusal, and the reader of the parameters.
-#[derive(Clone, Copy)]
-pub struct Opened<'a> {
-    pub header: HeaderRead,
-    pub reader: Reader<'a>,
-}
-
-// What a reader finds, and the reader moved on.
-#[derive(Clone, Copy)]
-pub struct Next<'a> {
-    pub step: Step,
-    pub reader: Reader<'a>,
-}
-
-// The header that was read, or its refusal, and where the parameters start.
-#[derive(Clone, Copy)]
-struct Start {
-    header: HeaderRead,
-    at: usize,
-}
-
-// What stands at a position, and where the reader goes on.
-#[derive(Clone, Copy)]
-struct Forward {
-    step: Step,
-    at: usize,
-}
-
-// Where the parameters start: behind the header; at the end, where it was refused.
-fn start_behind(header: HeaderRead, end: usize) -> usize
-    ensures { result ≡ start_of (header_read_of header) end }
-{
-    match header {
-        HeaderRead::Header(_) => CommonHeader::SIZE,
-        HeaderRead::Refused(_) => end,
-    }
-}
-
-// The header of a message, and where its parameters start. 12, 1, 2, 4.
-fn start_of(bytes: &[u8]) -> Start
-    ensures { (header_read_of result.header ≡ read_header bytes.now)
-        × (result.at ≡ start_of (read_header bytes.now) (length bytes.now)) }
-{
-    let header = CommonHeader::decode(bytes);
-    let at = start_behind(header, bytes.len());
-    Start { header, at }
-}
-
-// The position behind a step; where it found no parameter, the position itself.
-fn behind(step: Step, at: usize) -> usize
-    ensures { result ≡ moved_to (step_of step) at }
-{
-    match step {
-        Step::Parameter(_, next) => next.at,
-        Step::End => at,
-        Step::Refused(_) => at,
-    }
-}
-
-// The parameter at a position, and the position behind it. 12, then 5 or 6.
-fn step_from(bytes: &[u8], at: usize) -> Forward
-    ensures { (step_of result.step ≡ bounded bytes.now (step_at bytes.now at))
-        × (result.at ≡ moved_to (bounded bytes.now (step_at bytes.now at)) at) }
-{
-    let step = (Cursor { at }).step(bytes);
-    let next = behind(step, at);
-    Forward { step, at: next }
-}
-
 impl<'a> Reader<'a> {
-    // Reads the header of a message. 12, 1, 2, 4. The reader stands behind it; at the end, where it was refused.
-    pub fn open(bytes: &'a [u8]) -> Opened<'a>
-        ensures { (header_read_of result.header ≡ read_header bytes.now) × (result.reader ≡ opened bytes.entry) }
+    // Reads the header of a message. 12, 1, 2, 4. The reader stands behind it.
+    pub fn open(bytes: &'a [u8]) -> Result<(CommonHeader, Reader<'a>), Refusal>
+        ensures { outcome_of result ≡ mapped (λ h. (h, opened bytes.entry)) (read_header bytes.now) }
     {
-        let start = start_of(bytes);
-        Opened {
-            header: start.header,
-            reader: Reader {
-                bytes,
-                at: start.at,
-            },
-        }
+        let header = CommonHeader::decode(bytes)?;
+        let at = CommonHeader::SIZE;
+        Ok((header, Reader { bytes, at }))
     }
 
-    // The parameter at the reader, or the end, with the reader moved on. 12, then 5 or 6.
-    pub fn next(self) -> Next<'a>
-        ensures { (step_of result.step ≡ next_of self.entry) × (result.reader ≡ moved_on self.entry) }
+    // The parameter at the reader, with the reader moved on; none at the end. 12, then 5 or 6.
+    pub fn step(self) -> Result<Option<(Place, Reader<'a>)>, Refusal>
+        ensures { outcome_of result ≡ mapped (given self.entry) (next_of self.entry) }
     {
-        let forward = step_from(self.bytes, self.at);
-        Next {
-            step: forward.step,
-            reader: Reader {
-                bytes: self.bytes,
-                at: forward.at,
-            },
-        }
+        let bytes = self.bytes;
+        let found = Cursor { at: self.at }.step(bytes)?;
+        Ok(found.map(|(place, next)| (place, Reader { bytes, at: next.at })))
     }
 
     // How far the reader stands: the position of the next parameter, counted from the message's first octet.
@@ -119,5 +41,27 @@ impl<'a> Reader<'a> {
         ensures { result ≡ self.entry.at }
     {
         self.at
+    }
+}
+
+// The parameters from the reader on, in wire order; a refusal is the last item. 12, then 5 or 6.
+impl<'a> Iterator for Reader<'a> {
+    type Item = Result<Place, Refusal>;
+
+    ghost next_gives = { λ r item s. Gives r item s };
+    ghost remaining = { λ r. at_most (ahead r) };
+
+    fn next(&mut self) -> Option<Result<Place, Refusal>> {
+        match self.step() {
+            Ok(Some((place, moved))) => {
+                *self = moved;
+                Some(Ok(place))
+            }
+            Ok(None) => None,
+            Err(refusal) => {
+                self.bytes = &[];
+                Some(Err(refusal))
+            }
+        }
     }
 }

@@ -1,14 +1,11 @@
 -- What the records and answers of the code stand for.
-use Rattle.std.specs.Prelude.{ℕ, Bool, true, false, List, [], ◌∷◌, take, replicate, leb}
-use Rattle.std.specs.Prelude.{Option, None, Some}
-use Rattle.bcd.specs.Outcome.{Outcome, accepted, pick, demand, mapped}
-use Rattle.bcd.specs.Answers.{refusal_of}
+use Rattle.std.specs.Prelude.{ℕ, true, false, List, [], ◌∷◌, take, leb}
+use Rattle.std.specs.Prelude.{Option, None, Some, option_map, is_some}
+use Rattle.bcd.specs.Outcome.{Outcome, accepted, demand, mapped}
 use Rattle.parameter.specs.Parameter.{Param}
 use Rattle.address.specs.Address.{Title, Address}
 use Rattle.address.specs.declared.RoutingIndicator.{RoutingIndicator}
 use Rattle.address.specs.declared.RoutingIndicator.TheVariants as I
-use Rattle.address.specs.declared.Routing.{Routing}
-use Rattle.address.specs.declared.Routing.TheVariants as R
 use Rattle.address.specs.declared.GlobalTitle.{GlobalTitle}
 use Rattle.address.specs.declared.SuaAddress.{SuaAddress}
 
@@ -19,11 +16,6 @@ routing_value I.RouteOnGlobalTitle = 1
 routing_value I.RouteOnSsnAndPc = 2
 routing_value I.RouteOnHostname = 3
 routing_value I.RouteOnSsnAndIp = 4
-
--- Which outcome each answer is.
-abbrev pub routing_of : Routing → Outcome ℕ
-routing_of (R.Indicator i) = accepted (routing_value i)
-routing_of (R.Refused r) = refusal_of r
 
 -- The title that a record stands for: the count says how many of its 255 digits there are.
 abbrev pub title_of : GlobalTitle → Title
@@ -39,10 +31,10 @@ title_of g = record {
 abbrev pub title_given : GlobalTitle → Outcome Title
 title_given g = demand (leb g.count 255) 11 (g.count ∷ []) (accepted (title_of g))
 
--- A part that its flag says is there; one that is absent is absent whatever its field holds (document 01, module 6).
-abbrev pub flagged : {X : Type 0} → Bool → X → Option X
-flagged true x = Some x
-flagged false x = None
+-- The title of a record, if it is there: 11.
+abbrev pub part_given : Option GlobalTitle → Outcome (Option Title)
+part_given None = accepted None
+part_given (Some g) = mapped Some (title_given g)
 
 -- The address that a record stands for, with the other sub-parameters that its records in a lent table stand for.
 abbrev pub address_of : SuaAddress → List Param → Address
@@ -51,18 +43,15 @@ address_of a others = record {
   gt = a.include_gt;
   pc = a.include_pc;
   ssn = a.include_ssn;
-  title = flagged a.has_title (title_of a.global_title);
-  code = flagged a.has_point_code a.point_code;
-  sub = flagged a.has_ssn a.ssn;
+  title = option_map title_of a.global_title;
+  code = a.point_code;
+  sub = a.ssn;
   others = others;
 }
 
 -- Writing takes it, unless its title is there with a count above 255: 11.
 abbrev pub address_given : SuaAddress → List Param → Outcome Address
-address_given a others =
-    pick a.has_title
-    (mapped (λ t. address_of a others) (title_given a.global_title))
-    (accepted (address_of a others))
+address_given a others = mapped (λ t. address_of a others) (part_given a.global_title)
 
 -- The record of a title.
 abbrev pub title_record : (gti tt np noa : ℕ) → (digits : List ℕ) → (count : ℕ) → GlobalTitle
@@ -76,17 +65,14 @@ title_record gti tt np noa digits count = record {
 }
 
 -- Routed on the title, with or without an SSN; what is there is included (address.rs, `with_gt`).
-abbrev pub with_gt : GlobalTitle → Bool → ℕ → SuaAddress
-with_gt gt has_ssn ssn = record {
+abbrev pub with_gt : GlobalTitle → Option ℕ → SuaAddress
+with_gt gt ssn = record {
   routing_indicator = I.RouteOnGlobalTitle;
   include_gt = true;
   include_pc = false;
-  include_ssn = has_ssn;
-  has_title = true;
-  global_title = gt;
-  has_point_code = false;
-  point_code = 0;
-  has_ssn = has_ssn;
+  include_ssn = is_some ssn;
+  global_title = Some gt;
+  point_code = None;
   ssn = ssn;
   other_count = 0;
 }
@@ -98,11 +84,8 @@ with_ssn_pc ssn code = record {
   include_gt = false;
   include_pc = true;
   include_ssn = true;
-  has_title = false;
-  global_title = title_record 0 0 0 0 (replicate 255 0) 0;
-  has_point_code = true;
-  point_code = code;
-  has_ssn = true;
-  ssn = ssn;
+  global_title = None;
+  point_code = Some code;
+  ssn = Some ssn;
   other_count = 0;
 }

@@ -9,14 +9,15 @@ pub mod rewrite;
 pub mod title;
 
 ghost use Rattle.std.specs.Prelude.{◌≡◌, ◌+◌, ◌≤◌, []};
-ghost use Rattle.bcd.specs.Outcome.{pick};
+ghost use Rattle.bcd.specs.Outcome.{pick, mapped};
+ghost use Rattle.bcd.specs.Answers.{outcome_of};
 ghost use Rattle.address.specs.Address.{routing_in, indicator};
-ghost use Rattle.address.specs.Records.{routing_value, routing_of, address_of, title_record, with_gt, with_ssn_pc};
+ghost use Rattle.address.specs.Records.{routing_value, address_of, title_record, with_gt, with_ssn_pc};
 
 use bcd::error::Refusal;
 
 // How an address is routed (RFC 3868, 3.10.2.1).
-#[derive(Clone, Copy)]
+#[derive(Clone, Copy, Debug, PartialEq, Eq)]
 pub enum RoutingIndicator {
     Reserved,
     RouteOnGlobalTitle,
@@ -25,33 +26,27 @@ pub enum RoutingIndicator {
     RouteOnSsnAndIp,
 }
 
-// A routing indicator, or why it is none.
-#[derive(Clone, Copy)]
-pub enum Routing {
-    Indicator(RoutingIndicator),
-    Refused(Refusal),
-}
-
-impl RoutingIndicator {
-    // The routing indicator of a number. 8 above 4.
-    pub fn from_u16(value: u16) -> Routing
-        ensures { routing_of result ≡ routing_in value }
-    {
+// The routing indicator of a number. 8 above 4.
+impl TryFrom<u16> for RoutingIndicator {
+    type Error = Refusal;
+    ghost try_from_gives = { λ n r. mapped routing_value (outcome_of r) ≡ routing_in n };
+    fn try_from(value: u16) -> Result<RoutingIndicator, Refusal> {
         match value {
-            0 => Routing::Indicator(RoutingIndicator::Reserved),
-            1 => Routing::Indicator(RoutingIndicator::RouteOnGlobalTitle),
-            2 => Routing::Indicator(RoutingIndicator::RouteOnSsnAndPc),
-            3 => Routing::Indicator(RoutingIndicator::RouteOnHostname),
-            4 => Routing::Indicator(RoutingIndicator::RouteOnSsnAndIp),
-            other => Routing::Refused(Refusal::InvalidRoutingIndicator(other)),
+            0 => Ok(RoutingIndicator::Reserved),
+            1 => Ok(RoutingIndicator::RouteOnGlobalTitle),
+            2 => Ok(RoutingIndicator::RouteOnSsnAndPc),
+            3 => Ok(RoutingIndicator::RouteOnHostname),
+            4 => Ok(RoutingIndicator::RouteOnSsnAndIp),
+            other => Err(Refusal::InvalidRoutingIndicator(other)),
         }
     }
+}
 
-    // Its number.
-    pub fn value(self) -> u16
-        ensures { result ≡ routing_value self }
-    {
-        match self {
+// The number of a routing indicator.
+impl From<RoutingIndicator> for u16 {
+    ghost from_gives = { λ i n. n ≡ routing_value i };
+    fn from(indicator: RoutingIndicator) -> u16 {
+        match indicator {
             RoutingIndicator::Reserved => 0,
             RoutingIndicator::RouteOnGlobalTitle => 1,
             RoutingIndicator::RouteOnSsnAndPc => 2,
@@ -61,8 +56,24 @@ impl RoutingIndicator {
     }
 }
 
+impl RoutingIndicator {
+    // The routing indicator of a number. 8 above 4.
+    pub fn from_u16(value: u16) -> Result<RoutingIndicator, Refusal>
+        ensures { mapped routing_value (outcome_of result) ≡ routing_in value }
+    {
+        RoutingIndicator::try_from(value)
+    }
+
+    // Its number.
+    pub fn value(self) -> u16
+        ensures { result ≡ routing_value self }
+    {
+        u16::from(self)
+    }
+}
+
 // A global title: the first `count` of `digits` are its digits (RFC 3868, 3.10.2.3).
-#[derive(Clone, Copy)]
+#[derive(Clone, Copy, Debug, PartialEq, Eq)]
 pub struct GlobalTitle {
     pub gti: u8,
     pub translation_type: u8,
@@ -105,20 +116,17 @@ impl GlobalTitle {
     }
 }
 
-// An address. Title, point code and SSN are there where their flags say so, apart from the include bits of the address
-// indicator; the other sub-parameters are the first `other_count` records of a lent table (RFC 3868, 3.10.2).
-#[derive(Clone, Copy)]
+// An address. Which parts are there is told apart from the include bits of the address indicator; the other sub-parameters are
+// the first `other_count` records of a lent table (RFC 3868, 3.10.2).
+#[derive(Clone, Copy, Debug, PartialEq, Eq)]
 pub struct SuaAddress {
     pub routing_indicator: RoutingIndicator,
     pub include_gt: bool,
     pub include_pc: bool,
     pub include_ssn: bool,
-    pub has_title: bool,
-    pub global_title: GlobalTitle,
-    pub has_point_code: bool,
-    pub point_code: u32,
-    pub has_ssn: bool,
-    pub ssn: u8,
+    pub global_title: Option<GlobalTitle>,
+    pub point_code: Option<u32>,
+    pub ssn: Option<u8>,
     pub other_count: usize,
 }
 
@@ -130,20 +138,17 @@ fn flag(set: bool, bit: u16) -> u16
 }
 
 impl SuaAddress {
-    // An address that is routed on its title, with an SSN where `has_ssn` says so.
-    pub fn with_gt(gt: GlobalTitle, has_ssn: bool, ssn: u8) -> SuaAddress
-        ensures { result ≡ with_gt gt has_ssn ssn }
+    // An address that is routed on its title, with an SSN or without.
+    pub fn with_gt(gt: GlobalTitle, ssn: Option<u8>) -> SuaAddress
+        ensures { result ≡ with_gt gt ssn }
     {
         SuaAddress {
             routing_indicator: RoutingIndicator::RouteOnGlobalTitle,
             include_gt: true,
             include_pc: false,
-            include_ssn: has_ssn,
-            has_title: true,
-            global_title: gt,
-            has_point_code: false,
-            point_code: 0,
-            has_ssn,
+            include_ssn: ssn.is_some(),
+            global_title: Some(gt),
+            point_code: None,
             ssn,
             other_count: 0,
         }
@@ -158,19 +163,16 @@ impl SuaAddress {
             include_gt: false,
             include_pc: true,
             include_ssn: true,
-            has_title: false,
-            global_title: GlobalTitle::new(0, 0, 0, 0, [0u8; 255], 0),
-            has_point_code: true,
-            point_code,
-            has_ssn: true,
-            ssn,
+            global_title: None,
+            point_code: Some(point_code),
+            ssn: Some(ssn),
             other_count: 0,
         }
     }
 
     // The 16-bit address indicator: 1 SSN, 2 point code, 4 title (RFC 3868, 3.10.2.2).
-    pub fn address_indicator(self) -> u16
-        ensures { result ≡ indicator (address_of self []) }
+    pub fn address_indicator(&self) -> u16
+        ensures { result ≡ indicator (address_of self.now []) }
     {
         flag(self.include_ssn, 0x0001)
             + flag(self.include_pc, 0x0002)

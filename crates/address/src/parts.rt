@@ -1,68 +1,31 @@
 // One walk over the sub-parameters of an address value: which hold, which is too short, and what the others take.
-ghost use Rattle.std.specs.Prelude.{◌≡◌, ◌≤◌, length};
+ghost use Rattle.std.specs.Prelude.{◌≡◌, ◌≤◌};
 ghost use Rattle.bcd.specs.Outcome.{mapped, bounded};
+ghost use Rattle.bcd.specs.Answers.{outcome_of};
 ghost use Rattle.parameter.specs.Walk.{places};
-ghost use Rattle.address.specs.Parts.{nothing, kept_place, sooner, noted, note_all, surveyed_of};
+ghost use Rattle.address.specs.Parts.{nothing, sooner, noted, note_all};
 
 use bcd::error::Refusal;
-use parameter::{Cursor, Place, Step, tags};
-
-// Where the value of a sub-parameter that the walk keeps starts, and how long it is. There is none where the start is 0, since
-// four octets stand before the first sub-parameter.
-#[derive(Clone, Copy)]
-pub struct Kept {
-    pub start: usize,
-    pub length: usize,
-}
-
-// The tag of a sub-parameter that is too short, and how long its value is. There is none where the tag is 0.
-#[derive(Clone, Copy)]
-pub struct Short {
-    pub tag: u16,
-    pub length: usize,
-}
+use parameter::{Cursor, Place, tags};
 
 // The first sub-parameter that is too short for its tag; the last title, point code and SSN; and of the others, how many
 // there are and what they take on the wire.
-#[derive(Clone, Copy)]
+#[derive(Clone, Copy, Debug, PartialEq, Eq)]
 pub struct Parts {
-    pub short: Short,
-    pub title: Kept,
-    pub code: Kept,
-    pub ssn: Kept,
+    pub short: Option<Place>,
+    pub title: Option<Place>,
+    pub code: Option<Place>,
+    pub ssn: Option<Place>,
     pub other_count: usize,
     pub other_length: usize,
 }
 
-// What the walk gives, or why it cannot go on.
-#[derive(Clone, Copy)]
-pub enum Surveyed {
-    Parts(Parts),
-    Refused(Refusal),
-}
-
-// A sub-parameter that is kept.
-fn keep(place: Place) -> Kept
-    ensures { result ≡ kept_place place }
-{
-    Kept {
-        start: place.start,
-        length: place.length,
-    }
-}
-
 // The first of two sub-parameters that is too short: the one kept, or this one if its value has under `least` octets.
-fn first_short(short: Short, place: Place, least: usize) -> Short
+fn first_short(short: Option<Place>, place: Place, least: usize) -> Option<Place>
     ensures { result ≡ sooner short place least }
 {
-    if 0 < short.tag {
-        return short;
-    }
-    if place.length < least {
-        return Short {
-            tag: place.tag,
-            length: place.length,
-        };
+    if short.is_none() && place.length < least {
+        return Some(place);
     }
     short
 }
@@ -72,15 +35,11 @@ impl Parts {
     fn none() -> Parts
         ensures { result ≡ nothing }
     {
-        let kept = Kept {
-            start: 0,
-            length: 0,
-        };
         Parts {
-            short: Short { tag: 0, length: 0 },
-            title: kept,
-            code: kept,
-            ssn: kept,
+            short: None,
+            title: None,
+            code: None,
+            ssn: None,
             other_count: 0,
             other_length: 0,
         }
@@ -93,80 +52,41 @@ impl Parts {
         requires length_bound { place.length ≤ 1048576 }
         ensures { result ≡ noted self place }
     {
-        let tag = place.tag;
-        let length = place.length;
-        let short = self.short;
-        let title = self.title;
-        let code = self.code;
-        let ssn = self.ssn;
-        let other_count = self.other_count;
-        let other_length = self.other_length;
-        if tag == tags::GLOBAL_TITLE {
-            return Parts {
-                short: first_short(short, place, 8),
-                title: keep(place),
-                code,
-                ssn,
-                other_count,
-                other_length,
-            };
-        }
-        if tag == tags::POINT_CODE {
-            return Parts {
-                short: first_short(short, place, 4),
-                title,
-                code: keep(place),
-                ssn,
-                other_count,
-                other_length,
-            };
-        }
-        if tag == tags::SUBSYSTEM_NUMBER {
-            return Parts {
-                short: first_short(short, place, 4),
-                title,
-                code,
-                ssn: keep(place),
-                other_count,
-                other_length,
-            };
-        }
-        Parts {
-            short,
-            title,
-            code,
-            ssn,
-            other_count: other_count + 1,
-            other_length: other_length + (length + 7) / 4 * 4,
+        match place.tag {
+            tags::GLOBAL_TITLE => Parts {
+                short: first_short(self.short, place, 8),
+                title: Some(place),
+                ..self
+            },
+            tags::POINT_CODE => Parts {
+                short: first_short(self.short, place, 4),
+                code: Some(place),
+                ..self
+            },
+            tags::SUBSYSTEM_NUMBER => Parts {
+                short: first_short(self.short, place, 4),
+                ssn: Some(place),
+                ..self
+            },
+            _ => Parts {
+                other_count: self.other_count + 1,
+                other_length: self.other_length + (4 + place.length).next_multiple_of(4),
+                ..self
+            },
         }
     }
 }
 
 // Walks the sub-parameters behind the first four octets. 12, then 5 or 6 in wire order.
-pub(crate) fn survey(value: &[u8]) -> Surveyed
-    ensures { surveyed_of result
+pub(crate) fn survey(value: &[u8]) -> Result<Parts, Refusal>
+    ensures { outcome_of result
         ≡ bounded value.now (mapped (note_all nothing) (places value.now 4)) }
 {
-    if 1048576 < value.len() {
-        return Surveyed::Refused(Refusal::TooManyOctets(value.len()));
-    }
-    let mut c = Cursor { at: 4 };
     let mut parts = Parts::none();
-    let mut n: usize = 0;
-    while n < value.len() {
-        match c.step(value) {
-            Step::Parameter(p, next) => {
-                parts = parts.note(p);
-                c = next;
-                n = n + 1;
-            }
-            Step::End => {
-                return Surveyed::Parts(parts);
-            }
-            Step::Refused(r) => {
-                return Surveyed::Refused(r);
-            }
-        }
+    let mut c = Cursor { at: 4 };
+    while let Some((place, next)) = c.step(value)? {
+        parts = parts.note(place);
+        c = next;
     }
-    Surveyed::Parts(parts)
+    Ok(parts)
 }

@@ -1,8 +1,9 @@
 -- The parts that are written of an address that is given by its record.
-use Rattle.std.specs.Prelude.{Bool, List, [], ◌∷◌, ◌++◌, ℕ, ◌+◌, ◌/◌, ◌≤◌, ◌≡◌, length, leb}
+use Rattle.std.specs.Prelude.{List, [], ◌∷◌, ◌++◌, ℕ, ◌+◌, ◌/◌, ◌≤◌, ◌≡◌, length, leb}
+use Rattle.std.specs.Prelude.{Option, None, Some, is_some}
 use Rattle.bcd.specs.Outcome.{Outcome, accepted, pick, after, demand, each, fit64}
 use Rattle.bcd.specs.Digits.{built_in}
-use Rattle.parameter.specs.Parameter.{Param, two, padded_length, most_value, encode_param}
+use Rattle.parameter.specs.Parameter.{Param, param, two, padded_length, most_value, encode_param}
 use Rattle.parameter.specs.Table.{Table, records}
 use Rattle.address.specs.Address.{title, indicator, sub_param}
 use Rattle.address.specs.Records.{routing_value, title_given, address_of}
@@ -10,22 +11,24 @@ use Rattle.address.specs.declared.GlobalTitle.{GlobalTitle}
 use Rattle.address.specs.declared.SuaAddress.{SuaAddress}
 
 -- The sub-parameter of a title, if it is there: 11, 9.
-abbrev pub given_title : (there : Bool) → GlobalTitle → Outcome (List Param)
-given_title there g = pick there (after (title_given g) (λ t. sub_param built_in (title t))) (accepted [])
+abbrev pub given_title : Option GlobalTitle → Outcome (List Param)
+given_title None = accepted []
+given_title (Some g) = after (title_given g) (λ t. sub_param built_in (title t))
 
--- A sub-parameter, if it is there.
-abbrev pub given_param : (there : Bool) → Param → List Param
-given_param there p = pick there (p ∷ []) []
+-- A sub-parameter of a tag and a value, if it is there.
+abbrev pub given_param : (tag : ℕ) → Option (List ℕ) → List Param
+given_param tag None = []
+given_param tag (Some v) = param tag v ∷ []
 
 -- The octets in front of the sub-parameters: routing indicator, address indicator.
 abbrev pub given_head : SuaAddress → List ℕ
 given_head a = two (routing_value a.routing_indicator) ++ two (indicator (address_of a []))
 
--- What a title of so many digits takes on the wire, if it is there: eight octets, and two digits to an octet, as a sub-parameter
+-- What a title takes on the wire, if it is there: eight octets, and two digits to an octet, as a sub-parameter
 -- (RFC 3868, 3.10.2.3). 11 (document 01, 'Refused because of the input').
-abbrev pub title_room : (there : Bool) → (count : ℕ) → Outcome ℕ
-title_room there count =
-    pick there (demand (leb count 255) 11 (count ∷ []) (accepted (padded_length (8 + (count + 1) / 2)))) (accepted 0)
+abbrev pub title_room : Option GlobalTitle → Outcome ℕ
+title_room None = accepted 0
+title_room (Some g) = demand (leb g.count 255) 11 (g.count ∷ []) (accepted (padded_length (8 + (g.count + 1) / 2)))
 
 -- There is room for so many octets.
 pub record Roomed (o : Outcome ℕ) (out : List ℕ) : Type 0 where
@@ -33,20 +36,23 @@ pub record Roomed (o : Outcome ℕ) (out : List ℕ) : Type 0 where
   pub known : o ≡ accepted takes
   pub room : takes ≤ length out
 
+-- What a point code or an SSN takes on the wire, if it is there.
+abbrev pub four_length : {X : Type 0} → Option X → ℕ
+four_length o = pick (is_some o) 8 0
+
 -- A value has at most 65,531 octets, else 10 (document 01, 'Refused because of the input').
 abbrev pub within : (tag n : ℕ) → Outcome ℕ
 within tag n = demand (leb n most_value) 10 (tag ∷ fit64 n ∷ []) (accepted n)
 
 -- How many octets an address value has, with what its title takes: 15, the title's refusal, 10 for each other, 10 for the whole
 -- (document 01, 'Order').
-unfoldable pub length_with : (tag : ℕ) → (taken : Outcome ℕ) → (code ssn : Bool) → (values : List ℕ) → Table → (count : ℕ) → Outcome ℕ
-length_with tag taken code ssn values t count =
-    after (records values t count) (λ others.
+unfoldable pub length_with : (tag : ℕ) → (taken : Outcome ℕ) → SuaAddress → (values : List ℕ) → Table → Outcome ℕ
+length_with tag taken a values t =
+    after (records values t a.other_count) (λ others.
     after taken (λ n.
     after (each encode_param others) (λ w.
-    within tag (4 + n + pick code 8 0 + pick ssn 8 0 + length w))))
+    within tag (4 + n + four_length a.point_code + four_length a.ssn + length w))))
 
 -- The same of an address whose digits can be written.
 abbrev pub room_for : (tag : ℕ) → SuaAddress → (values : List ℕ) → Table → Outcome ℕ
-room_for tag a values t =
-    length_with tag (title_room a.has_title a.global_title.count) a.has_point_code a.has_ssn values t a.other_count
+room_for tag a values t = length_with tag (title_room a.global_title) a values t

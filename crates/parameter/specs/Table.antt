@@ -1,23 +1,29 @@
--- Records in three lent slices of numbers: tag, start and length (document 01, 'Rust forms that cannot stay').
-use Rattle.std.specs.Prelude.{ℕ, ◌+◌, min, List, [], ◌∷◌, ◌++◌, map, length, take, drop, leb, eqb}
+-- Records of parameters in a lent slice: each one's tag, and where its value starts and how long it is in the octets given
+-- (document 01, 'Rust forms that cannot stay').
+use Rattle.std.specs.Prelude.{ℕ, ◌+◌, List, [], ◌∷◌, ◌++◌, length, take, drop, leb, eqb}
 use Rattle.std.specs.Prelude.{Option, None, Some}
 use Rattle.bcd.specs.Outcome.{Outcome, accepted, refused, pick, after, demand, each}
 use Rattle.parameter.specs.Parameter.{Param}
 use Rattle.parameter.specs.Walk.{valued}
 use Rattle.parameter.specs.declared.Place.{Place}
 
-pub record Table : Type 0 where
-  pub tags : List ℕ
-  pub starts : List ℕ
-  pub lengths : List ℕ
+-- The rows of a lent table, in order.
+abbrev pub Table : Type 0
+Table = List Place
 
--- The three slices of a lent table.
+-- Rows from three columns.
+unfoldable pub rows : (tags starts lengths : List ℕ) → List Place
+rows (t ∷ ts) (s ∷ ss) (l ∷ ls) = record { tag = t; start = s; length = l } ∷ rows ts ss ls
+rows [] ss ls = []
+rows (t ∷ ts) [] ls = []
+rows (t ∷ ts) (s ∷ ss) [] = []
+
 abbrev pub table : (tags starts lengths : List ℕ) → Table
-table tags starts lengths = record { tags = tags; starts = starts; lengths = lengths }
+table tags starts lengths = rows tags starts lengths
 
--- The shortest slice is the table's room (docs/DECISIONS.md, point 1).
-unfoldable pub room : Table → ℕ
-room t = min (length t.tags) (min (length t.starts) (length t.lengths))
+-- How many rows a table has room for.
+abbrev pub room : Table → ℕ
+room t = length t
 
 -- What a call that reads into a lent table answers, and what the table then holds.
 pub record Tabulated : Type 0 where
@@ -29,7 +35,7 @@ abbrev pub tabulated : Outcome ℕ → Table → Tabulated
 tabulated answer held = record { answer = answer; table = held }
 
 -- A list in front of what a slice held beyond it.
-abbrev pub over : List ℕ → List ℕ → List ℕ
+abbrev pub over : {A : Type 0} → List A → List A → List A
 over xs held = xs ++ drop (length xs) held
 
 -- Places that fit are stored from the front, and their number is answered. Places that do not fit are refused as 13 with
@@ -38,19 +44,8 @@ unfoldable pub tabulate : Outcome (List Place) → Table → Tabulated
 tabulate (refused n vs) t = tabulated (refused n vs) t
 tabulate (accepted ps) t =
     pick (leb (length ps) (room t))
-    (tabulated (accepted (length ps))
-    (table
-    (over (map (λ p. p.tag) ps) t.tags)
-    (over (map (λ p. p.start) ps) t.starts)
-    (over (map (λ p. p.length) ps) t.lengths)))
+    (tabulated (accepted (length ps)) (over ps t))
     (tabulated (refused 13 (length ps ∷ [])) t)
-
--- The records of a table, row by row.
-unfoldable pub rows : List ℕ → List ℕ → List ℕ → List Place
-rows (t ∷ ts) (s ∷ ss) (l ∷ ls) = record { tag = t; start = s; length = l } ∷ rows ts ss ls
-rows [] ss ls = []
-rows (t ∷ ts) [] ls = []
-rows (t ∷ ts) (s ∷ ss) [] = []
 
 -- A record's parameter; 15 where it reaches outside the values.
 unfoldable pub record_in : List ℕ → Place → Outcome (List Param)
@@ -59,9 +54,7 @@ record_in values p = demand (leb (p.start + p.length) (length values)) 15 [] (ac
 -- The parameters of the first so many records over a lent slice of values; 15 where the count or a record reaches
 -- outside its slice (document 01, 'Refused because of what was lent').
 unfoldable pub records : List ℕ → Table → (count : ℕ) → Outcome (List Param)
-records values t count =
-    demand (leb count (room t)) 15 []
-    (each (record_in values) (take count (rows t.tags t.starts t.lengths)))
+records values t count = demand (leb count (room t)) 15 [] (each (record_in values) (take count t))
 
 -- The first record with a tag (document 01, module 2).
 abbrev pub first_with : ℕ → List Place → Option Place
@@ -70,6 +63,4 @@ first_with tag (p ∷ ps) = pick (eqb p.tag tag) (Some p) (first_with tag ps)
 
 -- Finding by tag: 15 looks at every record (document 01, 'Order'; docs/DECISIONS.md, point 6).
 unfoldable pub find_param : List ℕ → Table → (count tag : ℕ) → Outcome (Option Place)
-find_param values t count tag =
-    after (records values t count) (λ ps.
-    accepted (first_with tag (take count (rows t.tags t.starts t.lengths))))
+find_param values t count tag = after (records values t count) (λ ps. accepted (first_with tag (take count t)))

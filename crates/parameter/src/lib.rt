@@ -6,57 +6,38 @@ pub mod tags;
 
 ghost use Rattle.std.specs.Prelude.{◌≡◌, ◌++◌, ◌+◌, ◌*◌, ◌≤◌};
 ghost use lib.ListN.{length, replicate, take, drop};
-ghost use Rattle.bcd.specs.Outcome.{accepted, bounded, fit64, delivered, deliver};
-ghost use Rattle.bcd.specs.Answers.{counted_of};
-ghost use Rattle.parameter.specs.Parameter.{param, two, padded_length, param_octets, most_value};
+ghost use Rattle.bcd.specs.Outcome.{accepted, bounded, delivered, deliver};
+ghost use Rattle.bcd.specs.Answers.{outcome_of};
+ghost use Rattle.parameter.specs.Parameter.{param, padded_length, param_octets, most_value};
 ghost use Rattle.parameter.specs.Parameter.{encode_param, wire_length, frame_param, number_in};
-ghost use Rattle.parameter.specs.Walk.{step_at, decode_param};
-ghost use Rattle.parameter.specs.Answers.{step_of, one_of, number_of};
+ghost use Rattle.parameter.specs.Walk.{step_at, decode_param, valued};
+ghost use Rattle.parameter.specs.Answers.{step_of, one_of};
 
-use bcd::error::{Counted, Refusal};
+use bcd::error::Refusal;
 
 // A parameter's tag, and where its value starts and how long it is in the octets given.
-#[derive(Clone, Copy)]
+#[derive(Clone, Copy, Debug, PartialEq, Eq)]
 pub struct Place {
     pub tag: u16,
     pub start: usize,
     pub length: usize,
 }
 
+impl Place {
+    // The value's octets, as many of them as there are.
+    pub fn value<'a>(self, octets: &'a [u8]) -> &'a [u8]
+        ensures { result.now ≡ (valued octets.now self).value }
+    {
+        let start = self.start.min(octets.len());
+        let end = start + self.length.min(octets.len() - start);
+        &octets[start..end]
+    }
+}
+
 // A position in a run of parameters.
-#[derive(Clone, Copy)]
+#[derive(Clone, Copy, Debug, PartialEq, Eq)]
 pub struct Cursor {
     pub at: usize,
-}
-
-// What a step of the cursor finds: a parameter with the cursor moved on, the end of the run, or a refusal.
-#[derive(Clone, Copy)]
-pub enum Step {
-    Parameter(Place, Cursor),
-    End,
-    Refused(Refusal),
-}
-
-// One parameter read: its place, and how many octets it took.
-#[derive(Clone, Copy)]
-pub enum One {
-    Parameter(Place, usize),
-    Refused(Refusal),
-}
-
-// A value read as a number; none under four octets.
-#[derive(Clone, Copy)]
-pub enum Number {
-    Value(u32),
-    None,
-    Refused(Refusal),
-}
-
-// A 16-bit number of two octets, the high one first.
-pub fn be16(high: u8, low: u8) -> u16
-    ensures { result ≡ high * 256 + low }
-{
-    (high as u16) * 256 + (low as u16)
 }
 
 impl Cursor {
@@ -67,120 +48,80 @@ impl Cursor {
         Cursor { at: 0 }
     }
 
-    // The parameter at the cursor, with the cursor moved on. 12, then 5 or 6.
-    pub fn step(self, bytes: &[u8]) -> Step
+    // The parameter at the cursor, with the cursor moved on; none at the end of the run. 12, then 5 or 6.
+    pub fn step(self, bytes: &[u8]) -> Result<Option<(Place, Cursor)>, Refusal>
         ensures { step_of result ≡ bounded bytes.now (step_at bytes.now self.at) }
     {
         let at = self.at;
         let n = bytes.len();
         if 1048576 < n {
-            return Step::Refused(Refusal::TooManyOctets(n));
+            return Err(Refusal::TooManyOctets(n));
         }
-        if n < at {
-            return Step::End;
-        }
-        let left = n - at;
+        let left = n.saturating_sub(at);
         if left < 4 {
-            return Step::End;
+            return Ok(None);
         }
-        let tag = be16(bytes[at], bytes[at + 1]);
-        let length = be16(bytes[at + 2], bytes[at + 3]);
+        let tag = u16::from_be_bytes([bytes[at], bytes[at + 1]]);
+        let length = u16::from_be_bytes([bytes[at + 2], bytes[at + 3]]);
         if length < 4 {
-            return Step::Refused(Refusal::InvalidParameter { tag, length });
+            return Err(Refusal::InvalidParameter { tag, length });
         }
-        let l = length as usize;
+        let l = usize::from(length);
         if left < l {
-            return Step::Refused(Refusal::ParameterTooShort {
+            return Err(Refusal::ParameterTooShort {
                 tag,
                 expected: l,
                 actual: left,
             });
         }
-        Step::Parameter(
-            Place {
-                tag,
-                start: at + 4,
-                length: l - 4,
-            },
-            Cursor {
-                at: at + (l + 3) / 4 * 4,
-            },
-        )
+        let place = Place {
+            tag,
+            start: at + 4,
+            length: l - 4,
+        };
+        let next = Cursor {
+            at: at + l.next_multiple_of(4),
+        };
+        Ok(Some((place, next)))
     }
 }
 
-// Reads the parameter at the front of the octets. 12, 1, 5, 6.
-pub fn decode(bytes: &[u8]) -> One
+// Reads the parameter at the front of the octets, and tells how many octets it took. 12, 1, 5, 6.
+pub fn decode(bytes: &[u8]) -> Result<(Place, usize), Refusal>
     ensures { one_of result ≡ bounded bytes.now (decode_param bytes.now) }
 {
     let n = bytes.len();
-    match Cursor::new().step(bytes) {
-        Step::Refused(r) => One::Refused(r),
-        Step::End => One::Refused(Refusal::TooShort {
+    match Cursor::new().step(bytes)? {
+        Some((place, next)) => Ok((place, next.at.min(n))),
+        None => Err(Refusal::TooShort {
             expected: 4,
             actual: n,
         }),
-        Step::Parameter(p, next) => {
-            if next.at < n {
-                return One::Parameter(p, next.at);
-            }
-            One::Parameter(p, n)
-        }
     }
 }
 
 // What a parameter with a value of this length takes on the wire. 10.
-pub fn wire_length(tag: u16, length: usize) -> Counted
-    ensures { counted_of result ≡ wire_length tag length }
+pub fn wire_length(tag: u16, length: usize) -> Result<usize, Refusal>
+    ensures { outcome_of result ≡ wire_length tag length }
 {
     if 65531 < length {
-        return Counted::Refused(Refusal::ValueTooLong { tag, length });
+        return Err(Refusal::ValueTooLong { tag, length });
     }
-    Counted::Count((length + 7) / 4 * 4)
+    Ok((length + 4).next_multiple_of(4))
 }
 
-// The first four octets of a value as a number. 12.
-pub fn as_u32(value: &[u8]) -> Number
-    ensures { number_of result ≡ bounded value.now (accepted (number_in value.now)) }
+// The first four octets of a value as a number; none under four octets. 12.
+pub fn as_u32(value: &[u8]) -> Result<Option<u32>, Refusal>
+    ensures { outcome_of result ≡ bounded value.now (accepted (number_in value.now)) }
 {
     let n = value.len();
     if 1048576 < n {
-        return Number::Refused(Refusal::TooManyOctets(n));
+        return Err(Refusal::TooManyOctets(n));
     }
     if n < 4 {
-        return Number::None;
+        return Ok(None);
     }
-    let high = be16(value[0], value[1]) as u32;
-    let low = be16(value[2], value[3]) as u32;
-    Number::Value(high * 65536 + low)
-}
-
-// Clears a slice of at most three octets, which padding is. No loop: it would be compiled to a call.
-fn clear(out: &mut [u8])
-    requires { length out.old ≤ 3 }
-    ensures { out.new ≡ replicate (length out.old) 0 }
-{
-    if out.len() < 1 {
-        return;
-    }
-    out[0] = 0;
-    if out.len() < 2 {
-        return;
-    }
-    out[1] = 0;
-    if out.len() < 3 {
-        return;
-    }
-    out[2] = 0;
-}
-
-// Stores a 16-bit number, the high octet first, at the front of a slice.
-fn put_two(n: u16, out: &mut [u8])
-    requires { 2 ≤ length out.old }
-    ensures { out.new ≡ two n ++ drop 2 out.old }
-{
-    out[0] = (n / 256) as u8;
-    out[1] = (n % 256) as u8;
+    Ok(Some(u32::from_be_bytes([value[0], value[1], value[2], value[3]])))
 }
 
 // Stores tag, length and padding round a value that stands at the fifth octet, for which there is room.
@@ -191,10 +132,9 @@ fn surround(tag: u16, length: usize, out: &mut [u8])
         ≡ param_octets (param tag (take length (drop 4 out.old))) ++ drop (padded_length length) out.old }
 {
     let wire = length + 4;
-    let padded = (wire + 3) / 4 * 4;
-    put_two(tag, out);
-    put_two(wire as u16, &mut out[2..]);
-    clear(&mut out[wire..padded]);
+    out[..2].copy_from_slice(&tag.to_be_bytes());
+    out[2..4].copy_from_slice(&(wire as u16).to_be_bytes());
+    out[wire..wire.next_multiple_of(4)].fill(0);
 }
 
 // Stores one parameter, for which there is room, at the front of a slice.
@@ -209,47 +149,27 @@ pub(crate) fn put(tag: u16, value: &[u8], out: &mut [u8])
 }
 
 // Writes one parameter. 10, 14.
-pub fn encode(tag: u16, value: &[u8], out: &mut [u8]) -> Counted
-    ensures { delivered (counted_of result) out.new
+pub fn encode(tag: u16, value: &[u8], out: &mut [u8]) -> Result<usize, Refusal>
+    ensures { delivered (outcome_of result) out.new
         ≡ deliver (encode_param (param tag value.now)) out.old }
 {
-    match wire_length(tag, value.len()) {
-        Counted::Refused(r) => Counted::Refused(r),
-        Counted::Count(n) => {
-            if out.len() < n {
-                return Counted::Refused(Refusal::OutputTooSmall(n));
-            }
-            put(tag, value, out);
-            Counted::Count(n)
-        }
+    let n = wire_length(tag, value.len())?;
+    if out.len() < n {
+        return Err(Refusal::OutputTooSmall(n));
     }
+    put(tag, value, out);
+    Ok(n)
 }
 
 // Writes tag, length and padding round a value of this length that stands at the fifth octet of the output. 10, 14.
-pub fn frame(tag: u16, length: usize, out: &mut [u8]) -> Counted
-    ensures { delivered (counted_of result) out.new
+pub fn frame(tag: u16, length: usize, out: &mut [u8]) -> Result<usize, Refusal>
+    ensures { delivered (outcome_of result) out.new
         ≡ deliver (frame_param tag length out.old) out.old }
 {
-    match wire_length(tag, length) {
-        Counted::Refused(r) => Counted::Refused(r),
-        Counted::Count(n) => {
-            if out.len() < n {
-                return Counted::Refused(Refusal::OutputTooSmall(n));
-            }
-            surround(tag, length, out);
-            Counted::Count(n)
-        }
+    let n = wire_length(tag, length)?;
+    if out.len() < n {
+        return Err(Refusal::OutputTooSmall(n));
     }
-}
-
-// The sum, or the largest number that 64 bits hold.
-pub fn saturating_add(a: usize, b: usize) -> usize
-    ensures { result ≡ fit64 (a + b) }
-{
-    let left = 18446744073709551615 - a;
-    if left < b {
-        18446744073709551615
-    } else {
-        a + b
-    }
+    surround(tag, length, out);
+    Ok(n)
 }

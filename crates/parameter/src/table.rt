@@ -1,288 +1,157 @@
-// A run of parameters as records in three lent slices: read into them, written from them, and looked for by tag
-// (parameter.rs; document 01, module 2).
+// A run of parameters as records in a lent slice: read into it, written from it, and looked for by tag (parameter.rs;
+// document 01, module 2).
 ghost use Rattle.std.specs.Prelude.{◌≡◌, List, [], map, ℕ, ◌≤◌, length, take};
 ghost use Rattle.bcd.specs.Outcome.{accepted, refused, pick, after, mapped, each, bounded, fit64, delivered, deliver};
-ghost use Rattle.bcd.specs.Answers.{counted_of};
+ghost use Rattle.bcd.specs.Answers.{outcome_of};
 ghost use Rattle.parameter.specs.Parameter.{encode_param, encode_params};
 ghost use Rattle.parameter.specs.Walk.{places, valued};
-ghost use Rattle.parameter.specs.Table.{table, tabulated, tabulate, rows, records, find_param};
-ghost use Rattle.parameter.specs.Answers.{found_of};
+ghost use Rattle.parameter.specs.Table.{tabulated, tabulate, records, find_param};
 
-use crate::{Cursor, Place, Step, put, saturating_add};
-use bcd::error::{Counted, Refusal};
-
-// A parameter looked for by its tag.
-#[derive(Clone, Copy)]
-pub enum Found {
-    At(Place),
-    None,
-    Refused(Refusal),
-}
+use crate::{Cursor, Place, put, wire_length};
+use bcd::error::Refusal;
 
 // How many parameters there are from a position on. 12, then 5 or 6.
-pub fn count(bytes: &[u8], from: usize) -> Counted
-    ensures { counted_of result ≡ mapped length (bounded bytes.now (places bytes.now from)) }
-{
-    if 1048576 < bytes.len() {
-        return Counted::Refused(Refusal::TooManyOctets(bytes.len()));
-    }
-    let mut c = Cursor { at: from };
-    let mut n: usize = 0;
-    while n < bytes.len() {
-        match c.step(bytes) {
-            Step::Parameter(_, next) => {
-                c = next;
-                n = n + 1;
-            }
-            Step::End => {
-                return Counted::Count(n);
-            }
-            Step::Refused(r) => {
-                return Counted::Refused(r);
-            }
-        }
-    }
-    Counted::Count(n)
-}
-
-// Stores the places of all parameters from a position on, of which there are `count`.
-fn fill(
-    bytes: &[u8],
-    from: usize,
-    count: usize,
-    tags: &mut [u16],
-    starts: &mut [usize],
-    lengths: &mut [usize],
-)
-    requires count_value { accepted count ≡ mapped length (bounded bytes.now (places bytes.now from)) }
-    requires count_in_bounds { count ≤ length tags.old }
-    requires count_in_bounds_2 { count ≤ length starts.old }
-    requires count_in_bounds_3 { count ≤ length lengths.old }
-    ensures { tabulated (accepted count) (table tags.new starts.new lengths.new)
-        ≡ tabulate (bounded bytes.now (places bytes.now from))
-        (table tags.old starts.old lengths.old) }
+pub fn count(bytes: &[u8], from: usize) -> Result<usize, Refusal>
+    ensures { outcome_of result ≡ mapped length (bounded bytes.now (places bytes.now from)) }
 {
     let mut c = Cursor { at: from };
     let mut n: usize = 0;
-    while n < count {
-        match c.step(bytes) {
-            Step::Parameter(p, next) => {
-                tags[n] = p.tag;
-                starts[n] = p.start;
-                lengths[n] = p.length;
-                c = next;
-                n = n + 1;
-            }
-            Step::End => {
-                return;
-            }
-            Step::Refused(_) => {
-                return;
-            }
-        }
+    while let Some((_, next)) = c.step(bytes)? {
+        c = next;
+        n += 1;
+    }
+    Ok(n)
+}
+
+// Stores the places of all parameters from a position on, in rows that are as many.
+fn fill(bytes: &[u8], from: usize, rows: &mut [Place])
+    requires { accepted (length rows.old) ≡ mapped length (bounded bytes.now (places bytes.now from)) }
+    ensures { accepted rows.new ≡ bounded bytes.now (places bytes.now from) }
+{
+    let mut c = Cursor { at: from };
+    for row in rows.iter_mut() {
+        let Ok(Some((place, next))) = c.step(bytes) else {
+            return;
+        };
+        *row = place;
+        c = next;
     }
 }
 
-// Reads the run of parameters from a position on into three lent slices. 12, then 5 or 6 in wire order, then 13.
-pub fn decode_parameters_from(
-    bytes: &[u8],
-    from: usize,
-    tags: &mut [u16],
-    starts: &mut [usize],
-    lengths: &mut [usize],
-) -> Counted
-    ensures { tabulated (counted_of result) (table tags.new starts.new lengths.new)
-        ≡ tabulate (bounded bytes.now (places bytes.now from))
-        (table tags.old starts.old lengths.old) }
+// Reads the run of parameters from a position on into a lent slice. 12, then 5 or 6 in wire order, then 13.
+pub fn decode_parameters_from(bytes: &[u8], from: usize, rows: &mut [Place]) -> Result<usize, Refusal>
+    ensures { tabulated (outcome_of result) rows.new
+        ≡ tabulate (bounded bytes.now (places bytes.now from)) rows.old }
 {
-    match count(bytes, from) {
-        Counted::Refused(refusal) => Counted::Refused(refusal),
-        Counted::Count(needed) => {
-            if tags.len() < needed {
-                return Counted::Refused(Refusal::TableTooSmall(needed));
-            }
-            if starts.len() < needed {
-                return Counted::Refused(Refusal::TableTooSmall(needed));
-            }
-            if lengths.len() < needed {
-                return Counted::Refused(Refusal::TableTooSmall(needed));
-            }
-            fill(bytes, from, needed, tags, starts, lengths);
-            Counted::Count(needed)
-        }
+    let needed = count(bytes, from)?;
+    if rows.len() < needed {
+        return Err(Refusal::TableTooSmall(needed));
     }
+    fill(bytes, from, &mut rows[..needed]);
+    Ok(needed)
 }
 
-// Reads a run of parameters into three lent slices: each one's tag, and where its value starts and how long it is.
-pub fn decode_parameters(
-    bytes: &[u8],
-    tags: &mut [u16],
-    starts: &mut [usize],
-    lengths: &mut [usize],
-) -> Counted
-    ensures { tabulated (counted_of result) (table tags.new starts.new lengths.new)
-        ≡ tabulate (bounded bytes.now (places bytes.now 0))
-        (table tags.old starts.old lengths.old) }
+// Reads a run of parameters into a lent slice: each one's tag, and where its value starts and how long it is.
+pub fn decode_parameters(bytes: &[u8], rows: &mut [Place]) -> Result<usize, Refusal>
+    ensures { tabulated (outcome_of result) rows.new
+        ≡ tabulate (bounded bytes.now (places bytes.now 0)) rows.old }
 {
-    decode_parameters_from(bytes, 0, tags, starts, lengths)
+    decode_parameters_from(bytes, 0, rows)
 }
 
-// Whether the count, or a record, reaches outside its lent slice: 15.
-pub fn outside(
-    values: &[u8],
-    tags: &[u16],
-    starts: &[usize],
-    lengths: &[usize],
-    count: usize,
-) -> bool
-    ensures { records values.now (table tags.now starts.now lengths.now) count
-        ≡ pick result (refused 15 [])
-        (accepted (map (valued values.now)
-        (take count (rows tags.now starts.now lengths.now)))) }
-{
-    if tags.len() < count {
-        return true;
+// Records of a lent table, over the octets that hold their values.
+#[derive(Clone, Copy)]
+pub struct Records<'a> {
+    pub values: &'a [u8],
+    pub rows: &'a [Place],
+}
+
+impl<'a> Records<'a> {
+    // The records of a table over these octets.
+    pub fn new(values: &'a [u8], rows: &'a [Place]) -> Records<'a>
+        ensures values { result.values.now ≡ values.now }
+        ensures rows { result.rows.now ≡ rows.now }
+    {
+        Records { values, rows }
     }
-    if starts.len() < count {
-        return true;
-    }
-    if lengths.len() < count {
-        return true;
-    }
-    let n = values.len();
-    let mut i = 0;
-    while i < count {
-        let start = starts[i];
-        if n < start {
+
+    // Whether the count, or a record, reaches outside its lent slice: 15.
+    pub fn outside(self, count: usize) -> bool
+        ensures { records self.entry.values.now self.entry.rows.now count
+            ≡ pick result (refused 15 [])
+            (accepted (map (valued self.entry.values.now) (take count self.entry.rows.now))) }
+    {
+        if self.rows.len() < count {
             return true;
         }
-        if n - start < lengths[i] {
-            return true;
-        }
-        i += 1;
-    }
-    false
-}
-
-// What the parameters of a list of records take on the wire together. 15, then 10 in order.
-pub fn parameters_length(
-    values: &[u8],
-    tags: &[u16],
-    starts: &[usize],
-    lengths: &[usize],
-    count: usize,
-) -> Counted
-    ensures { counted_of result
-        ≡ mapped (λ (os : List ℕ). fit64 (length os))
-        (after
-        (records values.now (table tags.now starts.now lengths.now) count)
-        (each encode_param)) }
-{
-    if outside(values, tags, starts, lengths, count) {
-        return Counted::Refused(Refusal::OutsideSlice);
-    }
-    let mut total: usize = 0;
-    let mut i = 0;
-    while i < count {
-        let tag = tags[i];
-        let length = lengths[i];
-        if 65531 < length {
-            return Counted::Refused(Refusal::ValueTooLong { tag, length });
-        }
-        total = saturating_add(total, (length + 7) / 4 * 4);
-        i += 1;
-    }
-    Counted::Count(total)
-}
-
-// Writes the parameters of a list of records, which take `total` octets.
-fn write_run(
-    values: &[u8],
-    tags: &[u16],
-    starts: &[usize],
-    lengths: &[usize],
-    count: usize,
-    total: usize,
-    out: &mut [u8],
-)
-    requires total_value { accepted total
-        ≡ mapped length (after (records values.now (table tags.now starts.now lengths.now) count) (each encode_param)) }
-    requires total_in_bounds { total ≤ length out.old }
-    ensures { delivered (accepted total) out.new
-        ≡ deliver
-        (after
-        (records values.now (table tags.now starts.now lengths.now) count)
-        (each encode_param))
-        out.old }
-{
-    let mut at: usize = 0;
-    let mut i = 0;
-    while i < count {
-        let start = starts[i];
-        let length = lengths[i];
-        let end = start + length;
-        put(tags[i], &values[start..end], &mut out[at..]);
-        at = at + (length + 7) / 4 * 4;
-        i += 1;
-    }
-}
-
-// Writes the parameters of a list of records over a lent slice of values. 15, 10 in order, 12, 14.
-pub fn encode_parameters(
-    values: &[u8],
-    tags: &[u16],
-    starts: &[usize],
-    lengths: &[usize],
-    count: usize,
-    out: &mut [u8],
-) -> Counted
-    ensures { delivered (counted_of result) out.new
-        ≡ deliver
-        (after
-        (records values.now (table tags.now starts.now lengths.now) count)
-        encode_params)
-        out.old }
-{
-    match parameters_length(values, tags, starts, lengths, count) {
-        Counted::Refused(r) => Counted::Refused(r),
-        Counted::Count(n) => {
-            if 1048576 < n {
-                return Counted::Refused(Refusal::TooManyOctets(n));
+        let n = self.values.len();
+        for &row in &self.rows[..count] {
+            if n < row.start || n - row.start < row.length {
+                return true;
             }
-            if out.len() < n {
-                return Counted::Refused(Refusal::OutputTooSmall(n));
-            }
-            write_run(values, tags, starts, lengths, count, n, out);
-            Counted::Count(n)
         }
+        false
     }
-}
 
-// The first record with a tag. 15.
-pub fn find_parameter(
-    values: &[u8],
-    tags: &[u16],
-    starts: &[usize],
-    lengths: &[usize],
-    count: usize,
-    tag: u16,
-) -> Found
-    ensures { found_of result
-        ≡ find_param values.now (table tags.now starts.now lengths.now) count tag }
-{
-    if outside(values, tags, starts, lengths, count) {
-        return Found::Refused(Refusal::OutsideSlice);
-    }
-    let mut row = 0;
-    while row < count {
-        if tags[row] == tag {
-            return Found::At(Place {
-                tag: tags[row],
-                start: starts[row],
-                length: lengths[row],
-            });
+    // What the parameters of the records take on the wire together. 15, then 10 in order.
+    pub fn parameters_length(self, count: usize) -> Result<usize, Refusal>
+        ensures { outcome_of result
+            ≡ mapped (λ (os : List ℕ). fit64 (length os))
+            (after (records self.entry.values.now self.entry.rows.now count) (each encode_param)) }
+    {
+        if self.outside(count) {
+            return Err(Refusal::OutsideSlice);
         }
-        row += 1;
+        let mut total: usize = 0;
+        for &row in &self.rows[..count] {
+            total = total.saturating_add(wire_length(row.tag, row.length)?);
+        }
+        Ok(total)
     }
-    Found::None
+
+    // Writes the parameters of the records, which take `total` octets.
+    fn write_run(self, count: usize, total: usize, out: &mut [u8])
+        requires total_value { accepted total
+            ≡ mapped length (after (records self.values.now self.rows.now count) (each encode_param)) }
+        requires total_in_bounds { total ≤ length out.old }
+        ensures { delivered (accepted total) out.new
+            ≡ deliver
+            (after (records self.entry.values.now self.entry.rows.now count) (each encode_param))
+            out.old }
+    {
+        let mut at: usize = 0;
+        for &row in &self.rows[..count] {
+            put(row.tag, row.value(self.values), &mut out[at..]);
+            at += (row.length + 7) / 4 * 4;
+        }
+    }
+
+    // Writes the parameters of the records. 15, 10 in order, 12, 14.
+    pub fn encode_parameters(self, count: usize, out: &mut [u8]) -> Result<usize, Refusal>
+        ensures { delivered (outcome_of result) out.new
+            ≡ deliver
+            (after (records self.entry.values.now self.entry.rows.now count) encode_params)
+            out.old }
+    {
+        let n = self.parameters_length(count)?;
+        if 1048576 < n {
+            return Err(Refusal::TooManyOctets(n));
+        }
+        if out.len() < n {
+            return Err(Refusal::OutputTooSmall(n));
+        }
+        self.write_run(count, n, out);
+        Ok(n)
+    }
+
+    // The first record with a tag. 15.
+    pub fn find_parameter(self, count: usize, tag: u16) -> Result<Option<Place>, Refusal>
+        ensures { outcome_of result
+            ≡ find_param self.entry.values.now self.entry.rows.now count tag }
+    {
+        if self.outside(count) {
+            return Err(Refusal::OutsideSlice);
+        }
+        Ok(self.rows[..count].iter().find(|row| row.tag == tag).copied())
+    }
 }

@@ -1,10 +1,10 @@
 -- What the theorems speak of: the rules of a list and of rows, the longest member, a day from rows at 0, rows that are near
 -- to one another, and rows added up.
-use Rattle.std.specs.Prelude.{ℕ, ◌+◌, ◌*◌, ◌≤◌, ◌<◌, ◌≡◌, true, false, length, get_or}
+use Rattle.std.specs.Prelude.{ℕ, ◌+◌, ◌*◌, ◌≤◌, ◌<◌, ◌≡◌, true, false, length, sum, get_or}
 use mathlib.Core.List.{List, [], ◌∷◌, zip_with}
 use Rattle.bcd.specs.Outcome.{Outcome, All}
 use Rattle.parameter.specs.Parameter.{most_value}
-use Rattle.tally.specs.Members.{sum, begins}
+use Rattle.tally.specs.Members.{begins}
 use Rattle.tally.specs.Rows.{Rows, rows, no_rows, most_messages}
 use Rattle.tally.specs.Tally.{day}
 

@@ -1,16 +1,11 @@
 -- A member list: 1 to 64 members, each a distinct prefix of 1 to 15 decimal digits (document 02, CR 1).
-use Rattle.std.specs.Prelude.{ℕ, suc, ◌+◌, max, Bool, true, false, not, ◌&&◌, List, [], ◌∷◌, length, take, drop, leb, eqb}
+use Rattle.std.specs.Prelude.{ℕ, suc, max, Bool, true, false, not, ◌&&◌, List, [], ◌∷◌, length, sum, take, drop, leb, eqb}
 use Rattle.bcd.specs.Outcome.{pick}
 pub use Rattle.bcd.specs.Outcome.{every}
 
 -- From one number to another.
 abbrev pub between : (low high : ℕ) → ℕ → Bool
 between low high n = leb low n && leb n high
-
--- The numbers of a list, added up.
-abbrev pub sum : List ℕ → ℕ
-sum [] = 0
-sum (n ∷ ns) = n + sum ns
 
 -- Digits begin with a prefix.
 abbrev pub begins : (prefix digits : List ℕ) → Bool

@@ -1,8 +1,7 @@
 -- The rows of a day: as the members stand, then unplaced, then refused (document 02, CR 1).
-use Rattle.std.specs.Prelude.{ℕ, zero, suc, ◌+◌, ◌*◌, Bool, true, ◌&&◌, List, [], ◌∷◌, length, replicate, leb, ltb, eqb}
+use Rattle.std.specs.Prelude.{ℕ, zero, suc, ◌+◌, ◌*◌, Bool, true, ◌&&◌, List, [], ◌∷◌, length, sum, replicate, leb, ltb, eqb}
 use Rattle.parameter.specs.Parameter.{most_value}
 use Rattle.tally.specs.declared.place.Gain.{Gain}
-use Rattle.tally.specs.Members.{sum}
 
 -- The messages of each row, and their octets.
 pub record Rows : Type 0 where

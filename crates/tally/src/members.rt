@@ -1,125 +1,98 @@
-// A member list: the rules that it keeps, and its prefixes as numbers.
-ghost use Rattle.std.specs.Prelude.{◌≡◌, true, ◌≤◌, length, take};
-ghost use Rattle.parameter.specs.Table.{over};
-ghost use Rattle.bcd.specs.Outcome.{among};
-ghost use Rattle.tally.specs.Members.{between, every, members, valid_lengths, valid_members};
-ghost use Rattle.tally.specs.Steps.Codes.{code, values, codes, unlike};
+// The members of a list, and the longest that a title's digits begin with.
+ghost use Rattle.std.specs.Prelude.{◌≡◌, ◌≤◌, ◌*◌, ℕ, None, Some, length, take, get_or};
+ghost use Rattle.bcd.specs.Outcome.{pick};
+ghost use Rattle.bcd.specs.Digits.{built_in, halves, digits_in};
+ghost use Rattle.address.specs.Address.{title_at};
+ghost use Rattle.tally.specs.Members.{members, valid_members, longest};
+ghost use Rattle.tally.specs.Steps.Codes.{code};
 
-// Whether there are 1 to 64 lengths, each of 1 to 15, that add up to `total`.
-fn valid_lengths(lengths: &[u8], total: usize) -> bool
-    ensures { result ≡ valid_lengths total lengths.now }
+use crate::list::{decimal, distinct, numbers, valid_lengths};
+use bcd::half_in;
+use std::marker::Model;
+
+// A member list that keeps the rules, as it is lent, with the number of each prefix. Contracts see the prefixes.
+#[derive(Drop)]
+pub(crate) struct Members<'a> {
+    digits: &'a [u8],
+    lengths: &'a [u8],
+    numbers: [u64; 64],
+}
+
+impl<'a> Model for Members<'a> {
+    ghost use Rattle.std.specs.Prelude.{ℕ, List};
+
+    ghost Value = { List (List ℕ) };
+
+    ghost use Rattle.tally.specs.Members.{members};
+    ghost use Rattle.tally.specs.Steps.Codes.{Kept};
+
+    ghost view = { λ m. members m.digits.now m.lengths.now };
+
+    ghost invariant = { λ m. Kept m.digits.now m.lengths.now m.numbers };
+}
+
+// The numbers of the first digits: of none, of one, and so on to n; then zeros.
+fn starts(octets: &[u8], n: usize) -> [u64; 16]
+    requires n_bound { n ≤ 15 }
+    requires n_in_bounds { n ≤ 2 * length octets.now }
+    ensures { (k : ℕ) → k ≤ n → get_or result k 0 ≡ code (take k (halves octets.now)) }
 {
-    let n = lengths.len();
-    if n < 1 {
-        return false;
+    let mut first = [0; 16];
+    first[0] = 1;
+    for i in 0..n {
+        first[i + 1] = first[i] * 16 + u64::from(half_in(octets, i));
     }
-    if 64 < n {
-        return false;
-    }
-    let mut sum: usize = 0;
-    let mut i = 0;
-    while i < n {
-        let k = lengths[i];
-        if k < 1 {
-            return false;
+    first
+}
+
+impl<'a> Members<'a> {
+    // The members of a list that keeps the rules.
+    pub fn load(digits: &'a [u8], lengths: &'a [u8]) -> Option<Members<'a>>
+        ensures { result ≡ pick (valid_members digits.now lengths.now) (Some (members digits.now lengths.now)) None }
+    {
+        if !valid_lengths(lengths, digits.len()) || !decimal(digits) {
+            return None;
         }
-        if 15 < k {
-            return false;
+        let numbers = numbers(digits, lengths);
+        if !distinct(&numbers[..lengths.len()]) {
+            return None;
         }
-        sum = sum + k as usize;
-        i += 1;
+        Some(Members { digits, lengths, numbers })
     }
-    sum == total
-}
 
-// Whether all octets are 0 to 9. The least and the largest are kept, so that the loop has no branch.
-fn decimal(digits: &[u8]) -> bool
-    ensures { result ≡ every (between 0x30 0x39) digits.now }
-{
-    let mut low: u8 = 0x30;
-    let mut high: u8 = 0x30;
-    let mut i = 0;
-    while i < digits.len() {
-        let c = digits[i];
-        low = if c < low { c } else { low };
-        high = if high < c { c } else { high };
-        i += 1;
+    // How many there are.
+    pub fn count(&self) -> usize
+        ensures { result ≡ length self.now }
+    {
+        self.lengths.len()
     }
-    0x30 <= low && high <= 0x39
-}
 
-// A prefix as a number: a leading 1, then four bits for each digit.
-fn code(prefix: &[u8]) -> u64
-    requires prefix_value { every (between 0x30 0x39) prefix.now ≡ true }
-    requires prefix_len_bound { length prefix.now ≤ 15 }
-    ensures { result ≡ Rattle.tally.specs.Steps.Codes.code (values prefix.now) }
-{
-    let mut n: u64 = 1;
-    let mut i = 0;
-    while i < prefix.len() {
-        n = n * 16 + (prefix[i] - 0x30) as u64;
-        i += 1;
-    }
-    n
-}
-
-// Stores the number of each prefix, in the order of the members.
-fn write_codes(digits: &[u8], lengths: &[u8], out: &mut [u64])
-    requires lengths_value { valid_lengths (length digits.now) lengths.now ≡ true }
-    requires digits_value { every (between 0x30 0x39) digits.now ≡ true }
-    requires lengths_in_bounds { length lengths.now ≤ length out.old }
-    ensures { out.new ≡ over (codes (members digits.now lengths.now)) out.old }
-{
-    let mut at: usize = 0;
-    let mut i = 0;
-    while i < lengths.len() {
-        let end = at + lengths[i] as usize;
-        out[i] = code(&digits[at..end]);
-        at = end;
-        i += 1;
-    }
-}
-
-// Whether a number is among others. All are looked at, so that the loop has no branch.
-fn among(numbers: &[u64], number: u64) -> bool
-    ensures { result ≡ Rattle.bcd.specs.Outcome.among number numbers.now }
-{
-    let mut found = false;
-    let mut i = 0;
-    while i < numbers.len() {
-        found = found | (numbers[i] == number);
-        i += 1;
-    }
-    found
-}
-
-// Whether no two of the first n numbers are the same.
-fn distinct(numbers: &[u64], n: usize) -> bool
-    requires { n ≤ length numbers.now }
-    ensures { result ≡ unlike (take n numbers.now) }
-{
-    let mut i = 0;
-    while i < n {
-        if among(&numbers[..i], numbers[i]) {
-            return false;
+    // The place of the longest member that the first n digits begin with; the number of members if there is none.
+    fn longest(&self, octets: &[u8], n: usize) -> usize
+        requires n_bound { n ≤ 15 }
+        requires n_in_bounds { n ≤ 2 * length octets.now }
+        ensures { result ≡ longest self.now (digits_in built_in octets.now n) }
+    {
+        let first = starts(octets, n);
+        let mut best = 0;
+        let mut row = self.lengths.len();
+        for (i, &k) in self.lengths.iter().enumerate() {
+            let k = k as usize;
+            if best < k && k <= n && first[k] == self.numbers[i] {
+                best = k;
+                row = i;
+            }
         }
-        i += 1;
+        row
     }
-    true
-}
 
-// Whether a member list keeps the rules; if so, its prefixes are stored as numbers.
-pub(crate) fn load(digits: &[u8], lengths: &[u8], held: &mut [u64; 64]) -> bool
-    ensures value { result ≡ valid_members digits.now lengths.now }
-    ensures held_after { result ≡ true
-        → held.new ≡ over (codes (members digits.now lengths.now)) held.old }
-{
-    if !valid_lengths(lengths, digits.len()) {
-        return false;
+    // The row of a title. No digit past the fifteenth decides.
+    pub fn title_row(&self, title: &[u8]) -> usize
+        requires { 8 ≤ length title.now }
+        ensures { result ≡ longest self.now (title_at built_in title.now).digits }
+    {
+        let digits = &title[8..];
+        let n = (title[4] as usize).min(2 * digits.len()).min(15);
+        self.longest(digits, n)
     }
-    if !decimal(digits) {
-        return false;
-    }
-    write_codes(digits, lengths, held);
-    distinct(held, lengths.len())
 }

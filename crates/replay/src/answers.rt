@@ -1,70 +1,22 @@
-// What a call answers before its buffer or its table: a word, and up to four numbers.
-use bcd::error::{Counted, Refusal};
-use message::accessors::{Cause, Membership, Octet};
-use parameter::table::Found;
-use parameter::{Number, Place};
+// What calls answer, as words: `ok` and numbers, `none`, `yes`, `no`, or `refused`, the refusal's number and its values.
+use crate::line::Line;
+use bcd::error::Refusal;
+use message::SuaMessage;
+use message::accessors::SccpCause;
+use message::header::CommonHeader;
+use message::types::{MessageClass, MessageType};
+use parameter::Place;
+use std::fmt;
 
-#[derive(Clone, Copy)]
-pub(crate) enum Word {
-    Nothing,
-    Ok,
-    None,
-    Yes,
-    No,
-    End,
-    Unknown,
-    Refused,
+// An answer that a line shows.
+pub(crate) trait Answer {
+    fn show(&self, line: &mut Line) -> fmt::Result;
 }
 
-// The first `count` of the list are the numbers.
-#[derive(Clone, Copy)]
-pub(crate) struct Answer {
-    pub(crate) word: Word,
-    pub(crate) count: usize,
-    pub(crate) list: [u64; 4],
-}
-
-// A number of 8, 16 or 32 bits, a length or a flag, as one of 64 bits.
-pub(crate) fn wide(n: u8) -> u64 {
-    n as u64
-}
-
-pub(crate) fn wide_two(n: u16) -> u64 {
-    n as u64
-}
-
-pub(crate) fn wide_four(n: u32) -> u64 {
-    n as u64
-}
-
-pub(crate) fn wide_size(n: usize) -> u64 {
-    n as u64
-}
-
-pub(crate) fn wide_flag(set: bool) -> u64 {
-    if set { 1 } else { 0 }
-}
-
-// A word alone.
-pub(crate) fn bare(word: Word) -> Answer {
-    Answer {
-        word,
-        count: 0,
-        list: [0; 4],
-    }
-}
-
-// The numbers of an answer.
-pub(crate) fn ok(count: usize, a: u64, b: u64, c: u64, d: u64) -> Answer {
-    Answer {
-        word: Word::Ok,
-        count,
-        list: [a, b, c, d],
-    }
-}
-
-// How many values a refusal has.
-fn values(which: u64) -> usize {
+// How many values a refusal of a number has.
+fn values(which: u64) -> usize
+    ensures { result < 4 }
+{
     match which {
         1 | 4 | 5 | 10 => 2,
         6 => 3,
@@ -73,74 +25,130 @@ fn values(which: u64) -> usize {
     }
 }
 
-// A refusal's number and values.
-pub(crate) fn refused(r: Refusal) -> Answer {
-    let mut list = [0u64; 4];
-    let which = report::store(Counted::Refused(r), &mut list);
-    let n = values(which);
-    let count = if n < 4 { n + 1 } else { 4 };
-    Answer {
-        word: Word::Refused,
-        count,
-        list,
+impl Answer for Refusal {
+    fn show(&self, line: &mut Line) -> fmt::Result {
+        let mut list = [0u64; 4];
+        let which = report::store(Err(*self), &mut list);
+        line.word(b"refused")?;
+        line.numbers(&list[..values(which) + 1])
     }
 }
 
-// A count, or a refusal.
-pub(crate) fn counted(answer: Counted) -> Answer {
-    match answer {
-        Counted::Count(n) => ok(1, wide_size(n), 0, 0, 0),
-        Counted::Refused(r) => refused(r),
+impl<T: Answer> Answer for Result<T, Refusal> {
+    fn show(&self, line: &mut Line) -> fmt::Result {
+        match self {
+            Ok(answer) => answer.show(line),
+            Err(refusal) => refusal.show(line),
+        }
     }
 }
 
-// A place and, if it is counted, a further number.
-pub(crate) fn place(p: Place, count: usize, n: usize) -> Answer {
-    ok(
-        count,
-        wide_two(p.tag),
-        wide_size(p.start),
-        wide_size(p.length),
-        wide_size(n),
-    )
-}
-
-pub(crate) fn found(answer: Found) -> Answer {
-    match answer {
-        Found::At(p) => place(p, 3, 0),
-        Found::None => bare(Word::None),
-        Found::Refused(r) => refused(r),
+impl<T: Answer> Answer for Option<T> {
+    fn show(&self, line: &mut Line) -> fmt::Result {
+        match self {
+            Some(answer) => answer.show(line),
+            None => line.word(b"none"),
+        }
     }
 }
 
-pub(crate) fn number(answer: Number) -> Answer {
-    match answer {
-        Number::Value(n) => ok(1, wide_four(n), 0, 0, 0),
-        Number::None => bare(Word::None),
-        Number::Refused(r) => refused(r),
+impl Answer for bool {
+    fn show(&self, line: &mut Line) -> fmt::Result {
+        line.word(if *self { b"yes".as_slice() } else { b"no".as_slice() })
     }
 }
 
-pub(crate) fn octet(answer: Octet) -> Answer {
-    match answer {
-        Octet::Value(n) => ok(1, wide(n), 0, 0, 0),
-        Octet::None => bare(Word::None),
-        Octet::Refused(r) => refused(r),
+impl Answer for usize {
+    fn show(&self, line: &mut Line) -> fmt::Result {
+        line.ok(&[*self as u64])
     }
 }
 
-pub(crate) fn cause(answer: Cause) -> Answer {
-    match answer {
-        Cause::Value(c) => ok(2, wide(c.cause_type), wide(c.cause_value), 0, 0),
-        Cause::None => bare(Word::None),
-        Cause::Refused(r) => refused(r),
+impl Answer for u32 {
+    fn show(&self, line: &mut Line) -> fmt::Result {
+        line.ok(&[u64::from(*self)])
     }
 }
 
-pub(crate) fn membership(answer: Membership) -> Answer {
-    match answer {
-        Membership::Yes => bare(Word::Yes),
-        Membership::No => bare(Word::No),
-        Membership::Refused(r) => refused(r),
+impl Answer for u16 {
+    fn show(&self, line: &mut Line) -> fmt::Result {
+        line.ok(&[u64::from(*self)])
+    }
+}
+
+impl Answer for u8 {
+    fn show(&self, line: &mut Line) -> fmt::Result {
+        line.ok(&[u64::from(*self)])
+    }
+}
+
+impl Answer for SccpCause {
+    fn show(&self, line: &mut Line) -> fmt::Result {
+        line.ok(&[u64::from(self.cause_type), u64::from(self.cause_value)])
+    }
+}
+
+impl Answer for Place {
+    fn show(&self, line: &mut Line) -> fmt::Result {
+        line.ok(&[u64::from(self.tag), self.start as u64, self.length as u64])
+    }
+}
+
+// A place and a further number.
+impl Answer for (Place, usize) {
+    fn show(&self, line: &mut Line) -> fmt::Result {
+        self.0.show(line)?;
+        line.number(self.1 as u64)
+    }
+}
+
+impl Answer for MessageClass {
+    fn show(&self, line: &mut Line) -> fmt::Result {
+        line.ok(&[class_octet(*self)])
+    }
+}
+
+// A type's octets in the header, and its class.
+impl Answer for MessageType {
+    fn show(&self, line: &mut Line) -> fmt::Result {
+        let (class, msg_type) = self.class_and_type();
+        line.ok(&[
+            u64::from(class),
+            u64::from(msg_type),
+            class_octet(self.message_class()),
+        ])
+    }
+}
+
+impl Answer for CommonHeader {
+    fn show(&self, line: &mut Line) -> fmt::Result {
+        let (class, msg_type) = self.message_type.class_and_type();
+        line.ok(&[
+            u64::from(self.version),
+            u64::from(class),
+            u64::from(msg_type),
+            u64::from(self.message_length),
+        ])
+    }
+}
+
+// A message's class, type and count.
+impl Answer for SuaMessage {
+    fn show(&self, line: &mut Line) -> fmt::Result {
+        let (class, msg_type) = self.message_type.class_and_type();
+        line.ok(&[u64::from(class), u64::from(msg_type), self.count as u64])
+    }
+}
+
+// The octet of a class.
+fn class_octet(class: MessageClass) -> u64 {
+    match class {
+        MessageClass::Management => 0,
+        MessageClass::Snm => 2,
+        MessageClass::Aspsm => 3,
+        MessageClass::Asptm => 4,
+        MessageClass::ConnectionLess => 7,
+        MessageClass::ConnectionOriented => 8,
+        MessageClass::Rkm => 9,
     }
 }

@@ -1,140 +1,45 @@
 // The calls that answer numbers alone.
-use crate::answers::{Answer, Word, bare, counted, number, ok, refused, wide, wide_four, wide_two};
+use crate::answers::Answer;
+use crate::call::Call;
+use crate::line::Line;
 use crate::records::address;
-use crate::words::{one, place, size, two};
+use address::RoutingIndicator;
 use address::rewrite::rewritten_length;
-use address::{Routing, RoutingIndicator};
+use bcd::error::Refusal;
 use bcd::gt_digits_length;
 use form::settled_length;
-use message::header::{CommonHeader, HeaderRead};
-use message::types::{ClassRead, MessageClass, MessageType, TypeRead};
-use parameter::{Cursor, One, Step, as_u32, wire_length};
+use message::header::CommonHeader;
+use message::types::{MessageClass, MessageType};
+use parameter::{Cursor, as_u32, wire_length};
+use std::fmt;
 
-fn parameter_decode(bytes: &[u8]) -> Answer {
-    match parameter::decode(bytes) {
-        One::Parameter(p, consumed) => crate::answers::place(p, 4, consumed),
-        One::Refused(r) => refused(r),
-    }
-}
-
-fn step(at: usize, bytes: &[u8]) -> Answer {
+// The parameter at a position, and the next position.
+fn step(at: usize, bytes: &[u8], line: &mut Line) -> fmt::Result {
     match (Cursor { at }).step(bytes) {
-        Step::Parameter(p, next) => crate::answers::place(p, 4, next.at),
-        Step::End => bare(Word::End),
-        Step::Refused(r) => refused(r),
+        Ok(Some((place, next))) => (place, next.at).show(line),
+        Ok(None) => line.word(b"end"),
+        Err(refusal) => refusal.show(line),
     }
 }
 
-fn routing_indicator(value: u16) -> Answer {
-    match RoutingIndicator::from_u16(value) {
-        Routing::Indicator(indicator) => ok(1, wide_two(indicator.value()), 0, 0, 0),
-        Routing::Refused(r) => refused(r),
-    }
+fn routing_indicator(value: u16) -> Result<u16, Refusal> {
+    Ok(RoutingIndicator::from_u16(value)?.value())
 }
 
-fn address_indicator(n: &[u64], digits: &[u8]) -> Answer {
-    ok(
-        1,
-        wide_two(address(n, 0, digits).address_indicator()),
-        0,
-        0,
-        0,
-    )
-}
-
-// The octet of a class.
-fn class_octet(c: MessageClass) -> u64 {
-    match c {
-        MessageClass::Management => 0,
-        MessageClass::Snm => 2,
-        MessageClass::Aspsm => 3,
-        MessageClass::Asptm => 4,
-        MessageClass::ConnectionLess => 7,
-        MessageClass::ConnectionOriented => 8,
-        MessageClass::Rkm => 9,
-    }
-}
-
-fn class(value: u8) -> Answer {
-    match MessageClass::from_u8(value) {
-        ClassRead::Class(c) => ok(1, class_octet(c), 0, 0, 0),
-        ClassRead::Refused(r) => refused(r),
-    }
-}
-
-// A type's octets in the header, and its class.
-fn type_octets(t: MessageType) -> Answer {
-    let pair = t.class_and_type();
-    ok(
-        3,
-        wide(pair.0),
-        wide(pair.1),
-        class_octet(t.message_class()),
-        0,
-    )
-}
-
-fn class_type(class: u8, msg_type: u8) -> Answer {
-    match MessageType::from_class_type(class, msg_type) {
-        TypeRead::Type(t) => type_octets(t),
-        TypeRead::Refused(r) => refused(r),
-    }
-}
-
-// A header's fields.
-fn header(h: CommonHeader) -> Answer {
-    let t = h.message_type;
-    let pair = t.class_and_type();
-    ok(
-        4,
-        wide(h.version),
-        wide(pair.0),
-        wide(pair.1),
-        wide_four(h.message_length),
-    )
-}
-
-fn header_decode(bytes: &[u8]) -> Answer {
-    match CommonHeader::decode(bytes) {
-        HeaderRead::Header(h) => header(h),
-        HeaderRead::Refused(r) => refused(r),
-    }
-}
-
-pub(crate) fn which(name: &[u8]) -> usize {
-    place(
-        name,
-        b"gt_digits_length parameter_decode wire_length as_u32 step routing_indicator",
-    )
-}
-
-// The answer of the call at this place of the names.
-pub(crate) fn call(which: usize, n: &[u64], a: &[u8]) -> Answer {
-    match which {
-        1 => counted(gt_digits_length(a)),
-        2 => parameter_decode(a),
-        3 => counted(wire_length(two(n, 0), size(n, 1))),
-        4 => number(as_u32(a)),
-        5 => step(size(n, 0), a),
-        _ => routing_indicator(two(n, 0)),
-    }
-}
-
-pub(crate) fn which_message(name: &[u8]) -> usize {
-    place(
-        name,
-        b"address_indicator rewritten_length class class_type header_decode settled_length",
-    )
-}
-
-// The answer of the call at this place of the names.
-pub(crate) fn message_call(which: usize, n: &[u64], a: &[u8]) -> Answer {
-    match which {
-        1 => address_indicator(n, a),
-        2 => counted(rewritten_length(two(n, 0), a)),
-        3 => class(one(n, 0)),
-        4 => class_type(one(n, 0), one(n, 1)),
-        5 => header_decode(a),
-        _ => counted(settled_length(a)),
+pub(crate) fn answer(call: &Call, line: &mut Line) -> fmt::Result {
+    let a = call.string(0);
+    match call.name {
+        b"gt_digits_length" => gt_digits_length(a).show(line),
+        b"parameter_decode" => parameter::decode(a).show(line),
+        b"wire_length" => wire_length(call.get(0), call.get(1)).show(line),
+        b"as_u32" => as_u32(a).show(line),
+        b"step" => step(call.get(0), a, line),
+        b"routing_indicator" => routing_indicator(call.get(0)).show(line),
+        b"address_indicator" => address(call, 0, a).address_indicator().show(line),
+        b"rewritten_length" => rewritten_length(call.get(0), a).show(line),
+        b"class" => MessageClass::from_u8(call.get(0)).show(line),
+        b"class_type" => MessageType::from_class_type(call.get(0), call.get(1)).show(line),
+        b"header_decode" => CommonHeader::decode(a).show(line),
+        _ => settled_length(a).show(line),
     }
 }

@@ -1,126 +1,176 @@
-// The calls that are given a table, but for CLDT and CLDR.
-use crate::answers::{Answer, Word, bare, cause, counted, found, membership, number, octet};
-use crate::print::{answer, answer_and_codes, answer_and_octets};
-use crate::records::address;
-use crate::words::{codes_at, one, place, size, two};
+// The calls that are given a table, or lent one, and write no buffer of octets.
+ghost use Rattle.std.specs.Prelude.{◌≤◌, length};
+
+use crate::answers::Answer;
+use crate::call::Call;
+use crate::line::Line;
+use crate::records::address_read;
+use address::SuaAddress;
 use message::SuaMessage;
-use message::types::{MessageType, TypeRead};
-use parameter::table::{encode_parameters, find_parameter, parameters_length};
+use message::point_codes::unpack_affected_point_codes;
+use message::types::MessageType;
+use parameter::Place;
+use parameter::table::{Records, decode_parameters};
+use std::fmt;
+
+// The rows that a call is lent: as many as the shortest of three columns, of tags, starts and lengths, has places. Each number
+// in them is 60000 before the call.
+#[derive(Clone, Copy)]
+struct Lent {
+    rows: [Place; 64],
+    tags: usize,
+    starts: usize,
+    lengths: usize,
+}
+
+impl Lent {
+    // As the three numbers from a place on say.
+    fn new(call: &Call, at: usize) -> Lent
+        requires { at ≤ 100 }
+    {
+        let empty = Place {
+            tag: 60000,
+            start: 60000,
+            length: 60000,
+        };
+        Lent {
+            rows: [empty; 64],
+            tags: call.get::<usize>(at).min(64),
+            starts: call.get::<usize>(at + 1).min(64),
+            lengths: call.get::<usize>(at + 2).min(64),
+        }
+    }
+
+    fn rows(&mut self) -> &mut [Place] {
+        let n = self.tags.min(self.starts).min(self.lengths).min(64);
+        &mut self.rows[..n]
+    }
+
+    // Stores the three columns.
+    fn show(&self, line: &mut Line) -> fmt::Result {
+        let tags = self.rows.iter().take(self.tags);
+        line.column(b't', tags.map(|row| u64::from(row.tag)))?;
+        let starts = self.rows.iter().take(self.starts);
+        line.column(b's', starts.map(|row| row.start as u64))?;
+        let lengths = self.rows.iter().take(self.lengths);
+        line.column(b'l', lengths.map(|row| row.length as u64))
+    }
+}
+
+// The calls that read octets into a table.
+pub(crate) fn read(call: &Call, line: &mut Line) -> fmt::Result {
+    let a = call.string(0);
+    let mut lent = Lent::new(call, 0);
+    match call.name {
+        b"decode_parameters" => decode_parameters(a, lent.rows()).show(line)?,
+        b"message_decode" => SuaMessage::decode(a, lent.rows()).show(line)?,
+        _ => address_read(&SuaAddress::decode(a, lent.rows()), line)?,
+    }
+    lent.show(line)
+}
 
 // The message that the accessors are called on.
-pub(crate) fn message(n: &[u64]) -> SuaMessage {
+fn message(call: &Call) -> SuaMessage {
     SuaMessage {
         message_type: MessageType::Cldt,
-        count: size(n, 0),
+        count: call.get(0),
     }
 }
 
-pub(crate) fn which(name: &[u8]) -> usize {
-    place(
-        name,
-        b"parameters_length find_parameter routing_context sequence_control protocol_class ss7_hop_count sccp_cause",
-    )
+// The codes that a call is lent, as many as the number at a place says, each 60000 before the call.
+fn lent_codes<'a>(call: &Call, at: usize, codes: &'a mut [u32]) -> &'a mut [u32] {
+    let n = call.get::<usize>(at).min(codes.len());
+    let lent = &mut codes[..n];
+    lent.fill(60000);
+    lent
 }
 
-// The answer of the call at this place of the names.
-pub(crate) fn call(
-    which: usize,
-    n: &[u64],
-    values: &[u8],
-    tags: &[u16],
-    starts: &[usize],
-    lengths: &[usize],
-) -> Answer {
-    let m = message(n);
-    match which {
-        1 => counted(parameters_length(values, tags, starts, lengths, size(n, 0))),
-        2 => found(find_parameter(values, tags, starts, lengths, size(n, 0), two(n, 1))),
-        3 => number(m.routing_context(values, tags, starts, lengths)),
-        4 => number(m.sequence_control(values, tags, starts, lengths)),
-        5 => octet(m.protocol_class(values, tags, starts, lengths)),
-        6 => octet(m.ss7_hop_count(values, tags, starts, lengths)),
-        _ => cause(m.sccp_cause(values, tags, starts, lengths)),
+// The calls that store codes, or are given some as a set.
+pub(crate) fn codes(call: &Call, codes: &mut [u32], line: &mut Line) -> fmt::Result {
+    let a = call.string(0);
+    if call.name == b"contexts_in" {
+        let table = call.table(1);
+        let lent = Records::new(a, table.rows());
+        return message(call)
+            .contexts_in(lent, call.codes(table.end, codes))
+            .show(line);
     }
+    let room;
+    if call.name == b"affected_point_codes" {
+        let table = call.table(2);
+        room = lent_codes(call, 1, codes);
+        message(call)
+            .affected_point_codes(Records::new(a, table.rows()), room)
+            .show(line)?;
+    } else {
+        room = lent_codes(call, 0, codes);
+        unpack_affected_point_codes(a, room).show(line)?;
+    }
+    line.column(b'c', room.iter().map(|&code| u64::from(code)))
 }
 
-pub(crate) fn data(
-    m: SuaMessage,
-    values: &[u8],
-    tags: &[u16],
-    starts: &[usize],
-    lengths: &[usize],
-    line: &mut [u8],
-) -> usize {
-    let answer = found(m.data(values, tags, starts, lengths));
-    answer_and_octets(answer, m.data_part(values, tags, starts, lengths), line)
-}
-
-pub(crate) fn affected_point_codes(
-    m: SuaMessage,
-    values: &[u8],
-    tags: &[u16],
-    starts: &[usize],
-    lengths: &[usize],
-    room: &mut [u32],
-    line: &mut [u8],
-) -> usize {
-    let answer = counted(m.affected_point_codes(values, tags, starts, lengths, room));
-    answer_and_codes(answer, room, line)
-}
-
-// Whether the routing contexts are all in the set whose list stands at a place.
-pub(crate) fn contexts_in(
-    m: SuaMessage,
-    n: &[u64],
-    at: usize,
-    values: &[u8],
-    tags: &[u16],
-    starts: &[usize],
-    lengths: &[usize],
-    set: &mut [u32],
-    line: &mut [u8],
-) -> usize {
-    let count = codes_at(n, at, set);
-    let given = m.contexts_in(values, tags, starts, lengths, &set[0..count]);
-    answer(membership(given), line)
-}
-
-fn message_encode(
-    n: &[u64],
-    values: &[u8],
-    tags: &[u16],
-    starts: &[usize],
-    lengths: &[usize],
-    room: &mut [u8],
-) -> Answer {
-    let TypeRead::Type(message_type) = MessageType::from_class_type(one(n, 0), one(n, 1)) else {
-        return bare(Word::Unknown);
+// An address that an accessor reads, with the table lent for its others.
+fn address(call: &Call, line: &mut Line) -> fmt::Result {
+    let table = call.table(4);
+    let lent = Records::new(call.string(0), table.rows());
+    let mut others = Lent::new(call, 1);
+    let m = message(call);
+    let read = match call.name {
+        b"source_address" => m.source_address(lent, others.rows()),
+        _ => m.destination_address(lent, others.rows()),
     };
-    let m = SuaMessage {
-        message_type,
-        count: size(n, 2),
-    };
-    counted(m.encode(values, tags, starts, lengths, room))
+    address_read(&read, line)?;
+    others.show(line)
 }
 
-pub(crate) fn which_writer(name: &[u8]) -> usize {
-    place(name, b"encode_parameters message_encode address_encode")
+// All handling fields, each answer for itself.
+fn screen(call: &Call, line: &mut Line) -> fmt::Result {
+    let table = call.table(7);
+    let lent = Records::new(call.string(0), table.rows());
+    let mut sources = Lent::new(call, 1);
+    let mut destinations = Lent::new(call, 4);
+    let screen = message(call).screen(lent, sources.rows(), destinations.rows());
+    screen.routing_context.show(line)?;
+    line.next_answer();
+    screen.protocol_class.show(line)?;
+    line.next_answer();
+    screen.sequence_control.show(line)?;
+    line.next_answer();
+    screen.ss7_hop_count.show(line)?;
+    line.next_answer();
+    screen.sccp_cause.show(line)?;
+    line.next_answer();
+    address_read(&screen.source_address, line)?;
+    sources.show(line)?;
+    line.next_answer();
+    address_read(&screen.destination_address, line)?;
+    destinations.show(line)
 }
 
-// The answer of the call at this place of the names, which writes a buffer. `address_encode` has its values second.
-pub(crate) fn write(
-    which: usize,
-    n: &[u64],
-    a: &[u8],
-    b: &[u8],
-    tags: &[u16],
-    starts: &[usize],
-    lengths: &[usize],
-    room: &mut [u8],
-) -> Answer {
-    match which {
-        1 => counted(encode_parameters(a, tags, starts, lengths, size(n, 0), room)),
-        2 => message_encode(n, a, tags, starts, lengths, room),
-        _ => counted(address(n, 0, a).encode(b, tags, starts, lengths, room)),
+// The place of the data, and the data.
+fn data(call: &Call, line: &mut Line) -> fmt::Result {
+    let table = call.table(1);
+    let lent = Records::new(call.string(0), table.rows());
+    message(call).data(lent).show(line)?;
+    line.octets(message(call).data_part(lent))
+}
+
+// The calls that are given a table, and answer numbers or an address.
+pub(crate) fn answer(call: &Call, line: &mut Line) -> fmt::Result {
+    let a = call.string(0);
+    let table = call.table(if call.name == b"find_parameter" { 2 } else { 1 });
+    let lent = Records::new(a, table.rows());
+    let m = message(call);
+    match call.name {
+        b"parameters_length" => lent.parameters_length(m.count).show(line),
+        b"find_parameter" => lent.find_parameter(m.count, call.get(1)).show(line),
+        b"routing_context" => m.routing_context(lent).show(line),
+        b"sequence_control" => m.sequence_control(lent).show(line),
+        b"protocol_class" => m.protocol_class(lent).show(line),
+        b"ss7_hop_count" => m.ss7_hop_count(lent).show(line),
+        b"sccp_cause" => m.sccp_cause(lent).show(line),
+        b"data" => data(call, line),
+        b"screen" => screen(call, line),
+        _ => address(call, line),
     }
 }

@@ -16,6 +16,10 @@ header_with m len = record { version = 1; message_type = m; message_length = len
 abbrev pub header_octets : CommonHeader → List ℕ
 header_octets h = h.version ∷ 0 ∷ class_of h.message_type ∷ type_of h.message_type ∷ four h.message_length
 
+-- The octets of a message's parameters behind its header, whose length counts both (RFC 3868, 3.1.4).
+abbrev pub framed : MessageType → (params : List ℕ) → List ℕ
+framed m os = header_octets (header_with m (8 + length os)) ++ os
+
 -- Reading a header refuses 12, 1, 2, 4 and ignores the reserved octet (document 01, 'Order' and 'Records on the wire').
 unfoldable pub read_header : List ℕ → Outcome CommonHeader
 read_header xs =

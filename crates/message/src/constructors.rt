@@ -1,484 +1,319 @@
-// Messages made from their parts (message.rs; RFC 3868, 3.2 to 3.7). A part that may be absent is a flag and a value. Refused:
-// the source's, the destination's, further 10 in order, 14; no message is long enough for 12.
-ghost use Rattle.std.specs.Prelude.{◌≡◌, []};
+// Messages made from their parts (message.rs; RFC 3868, 3.2 to 3.7). Refused: the source's, the destination's, further 10 in
+// order, 14; no message is long enough for 12.
+ghost use Rattle.std.specs.Prelude.{◌≡◌, option_map, option_copied};
 ghost use Rattle.bcd.specs.Outcome.{delivered, deliver};
-ghost use Rattle.bcd.specs.Answers.{counted_of};
-ghost use Rattle.parameter.specs.Table.{table};
-ghost use Rattle.address.specs.Given.{encode_address_as};
+ghost use Rattle.bcd.specs.Answers.{outcome_of};
+ghost use Rattle.pieces.specs.declared.Part.TheVariants as P;
 ghost use Rattle.message.specs.declared.types.MessageType.TheVariants as M;
-ghost use Rattle.message.specs.Constructors.{written, asp_up, info_only, traffic_and_rc, rc_only, heartbeat_like};
+ghost use Rattle.message.specs.Constructors.{asp_up, info_only, traffic_and_rc, rc_only, heartbeat_like};
 ghost use Rattle.message.specs.Constructors.{error_message, notify, snm, cldt, cldr};
-ghost use Rattle.pieces.specs.Parts.{run_params};
-ghost use Rattle.message.specs.Steps.Parts.{connectionless};
+ghost use Rattle.message.specs.Steps.Parts.{made};
 
 use crate::SuaMessage;
 use crate::header::CommonHeader;
 use crate::types::MessageType;
 use address::SuaAddress;
-use bcd::error::{Counted, Refusal};
+use bcd::error::Refusal;
+use parameter::table::Records;
 use parameter::tags;
-use pieces::{Part, addressed_length, run_length, write_addressed, write_numbers, write_run};
+use pieces::{Part, run_length, write_run};
 
 // The SS7 hop counter that a CLDT starts with (RFC 3868, 3.10.1).
 pub const DEFAULT_HOP_COUNTER: u8 = 15;
 
-// Writes a message of three parts.
-fn plain(
+// Writes a message of parts. The refusals of each in order, 12, 14.
+fn write(
     message_type: MessageType,
-    first: Part,
-    second: Part,
-    third: Part,
-    data: &[u8],
-    codes: &[u32],
+    parts: &[Option<Part<'_>>],
     out: &mut [u8],
-) -> Counted
-    ensures { delivered (counted_of result) out.new
-        ≡ deliver (written message_type (run_params first second third «data».now codes.now))
-        out.old }
+) -> Result<usize, Refusal>
+    ensures { delivered (outcome_of result) out.new ≡ deliver (made message_type parts.now) out.old }
 {
-    match run_length(first, second, third, data, codes) {
-        Counted::Refused(r) => Counted::Refused(r),
-        Counted::Count(run) => {
-            let total = 8 + run;
-            if out.len() < total {
-                return Counted::Refused(Refusal::OutputTooSmall(total));
-            }
-            CommonHeader::new(message_type, total as u32).encode(out);
-            write_run(first, second, third, data, codes, &mut out[8..]);
-            Counted::Count(total)
-        }
+    let total = CommonHeader::SIZE.saturating_add(run_length(parts)?);
+    if 1048576 < total {
+        return Err(Refusal::TooManyOctets(total));
     }
+    if out.len() < total {
+        return Err(Refusal::OutputTooSmall(total));
+    }
+    CommonHeader::new(message_type, total as u32).encode(out)?;
+    write_run(parts, &mut out[CommonHeader::SIZE..])?;
+    Ok(total)
+}
+
+// A number as a part, if there is one.
+fn number<'a>(tag: u16, n: Option<u32>) -> Option<Part<'a>>
+    ensures { result ≡ option_map (P.Number tag) n }
+{
+    n.map(|n| Part::Number(tag, n))
+}
+
+// Octets as a part, if there are any.
+fn octets<'a>(tag: u16, octets: Option<&'a [u8]>) -> Option<Part<'a>>
+    ensures { result ≡ option_map (P.Octets tag) octets.entry }
+{
+    octets.map(|octets| Part::Octets(tag, octets))
 }
 
 // Writes a message with an info string, if given.
-fn info_only(message_type: MessageType, has_info: bool, info: &[u8], out: &mut [u8]) -> Counted
-    ensures { delivered (counted_of result) out.new
-        ≡ deliver (info_only message_type has_info info.now) out.old }
+fn info_only(
+    message_type: MessageType,
+    info: Option<&[u8]>,
+    out: &mut [u8],
+) -> Result<usize, Refusal>
+    ensures { delivered (outcome_of result) out.new
+        ≡ deliver (info_only message_type (option_copied info.entry)) out.old }
 {
-    plain(
-        message_type,
-        Part::Absent,
-        Part::Absent,
-        Part::Octets(has_info, tags::INFO_STRING),
-        info,
-        &[],
-        out,
-    )
+    write(message_type, &[octets(tags::INFO_STRING, info)], out)
 }
 
 // Writes a message with a traffic mode type and a routing context, each if given.
 fn traffic_and_rc(
     message_type: MessageType,
-    has_traffic_mode: bool,
-    traffic_mode: u32,
-    has_routing_context: bool,
-    routing_context: u32,
+    traffic_mode: Option<u32>,
+    routing_context: Option<u32>,
     out: &mut [u8],
-) -> Counted
-    ensures { delivered (counted_of result) out.new
-        ≡ deliver (traffic_and_rc message_type has_traffic_mode traffic_mode has_routing_context routing_context)
-        out.old }
+) -> Result<usize, Refusal>
+    ensures { delivered (outcome_of result) out.new
+        ≡ deliver (traffic_and_rc message_type traffic_mode routing_context) out.old }
 {
-    plain(
-        message_type,
-        Part::Absent,
-        Part::Number(has_traffic_mode, tags::TRAFFIC_MODE_TYPE, traffic_mode),
-        Part::Number(has_routing_context, tags::ROUTING_CONTEXT, routing_context),
-        &[],
-        &[],
-        out,
-    )
+    let traffic_mode = number(tags::TRAFFIC_MODE_TYPE, traffic_mode);
+    let routing_context = number(tags::ROUTING_CONTEXT, routing_context);
+    write(message_type, &[traffic_mode, routing_context], out)
 }
 
 // Writes a message with a routing context, if given.
 fn rc_only(
     message_type: MessageType,
-    has_routing_context: bool,
-    routing_context: u32,
+    routing_context: Option<u32>,
     out: &mut [u8],
-) -> Counted
-    ensures { delivered (counted_of result) out.new
-        ≡ deliver (rc_only message_type has_routing_context routing_context) out.old }
+) -> Result<usize, Refusal>
+    ensures { delivered (outcome_of result) out.new
+        ≡ deliver (rc_only message_type routing_context) out.old }
 {
-    plain(
+    write(
         message_type,
-        Part::Absent,
-        Part::Absent,
-        Part::Number(has_routing_context, tags::ROUTING_CONTEXT, routing_context),
-        &[],
-        &[],
+        &[number(tags::ROUTING_CONTEXT, routing_context)],
         out,
     )
 }
 
 // Writes a message with heartbeat data, if given.
-fn heartbeat_like(message_type: MessageType, has_data: bool, data: &[u8], out: &mut [u8]) -> Counted
-    ensures { delivered (counted_of result) out.new
-        ≡ deliver (heartbeat_like message_type has_data «data».now) out.old }
+fn heartbeat_like(
+    message_type: MessageType,
+    data: Option<&[u8]>,
+    out: &mut [u8],
+) -> Result<usize, Refusal>
+    ensures { delivered (outcome_of result) out.new
+        ≡ deliver (heartbeat_like message_type (option_copied «data».entry)) out.old }
 {
-    plain(
-        message_type,
-        Part::Absent,
-        Part::Absent,
-        Part::Octets(has_data, tags::HEARTBEAT_DATA),
-        data,
-        &[],
-        out,
-    )
+    write(message_type, &[octets(tags::HEARTBEAT_DATA, data)], out)
 }
 
 // Writes a message with a routing context, if given, and point codes.
 fn snm(
     message_type: MessageType,
-    has_routing_context: bool,
-    routing_context: u32,
+    routing_context: Option<u32>,
     affected_pcs: &[u32],
     out: &mut [u8],
-) -> Counted
-    ensures { delivered (counted_of result) out.new
-        ≡ deliver (snm message_type has_routing_context routing_context affected_pcs.now) out.old }
+) -> Result<usize, Refusal>
+    ensures { delivered (outcome_of result) out.new
+        ≡ deliver (snm message_type routing_context affected_pcs.now) out.old }
 {
-    plain(
-        message_type,
-        Part::Absent,
-        Part::Number(has_routing_context, tags::ROUTING_CONTEXT, routing_context),
-        Part::Codes,
-        &[],
-        affected_pcs,
-        out,
-    )
-}
-
-// Writes a connectionless message: the routing context, one more number, the source `src` with its values, tags, starts and
-// lengths, the destination `dst` with its own, and three parts.
-fn connectionless(
-    message_type: MessageType,
-    routing_context: u32,
-    tag: u16,
-    n: u32,
-    src: SuaAddress,
-    sv: &[u8],
-    st: &[u16],
-    ss: &[usize],
-    sl: &[usize],
-    dst: SuaAddress,
-    dv: &[u8],
-    dt: &[u16],
-    ds: &[usize],
-    dl: &[usize],
-    x: Part,
-    y: Part,
-    z: Part,
-    data: &[u8],
-    out: &mut [u8],
-) -> Counted
-    ensures { delivered (counted_of result) out.new
-        ≡ deliver
-        (connectionless message_type routing_context tag n
-        (encode_address_as 0x0102 src sv.now (table st.now ss.now sl.now))
-        (encode_address_as 0x0103 dst dv.now (table dt.now ds.now dl.now))
-        (run_params x y z «data».now []))
-        out.old }
-{
-    match addressed_length(src, sv, st, ss, sl, dst, dv, dt, ds, dl, x, y, z, data) {
-        Counted::Refused(r) => Counted::Refused(r),
-        Counted::Count(run) => {
-            let total = 24 + run;
-            if out.len() < total {
-                return Counted::Refused(Refusal::OutputTooSmall(total));
-            }
-            CommonHeader::new(message_type, total as u32).encode(out);
-            write_numbers(routing_context, tag, n, &mut out[8..]);
-            write_addressed(
-                src,
-                sv,
-                st,
-                ss,
-                sl,
-                dst,
-                dv,
-                dt,
-                ds,
-                dl,
-                x,
-                y,
-                z,
-                data,
-                &mut out[24..],
-            );
-            Counted::Count(total)
-        }
-    }
+    let routing_context = number(tags::ROUTING_CONTEXT, routing_context);
+    let affected = Some(Part::Codes(affected_pcs));
+    write(message_type, &[routing_context, affected], out)
 }
 
 impl SuaMessage {
     // CLDT: routing context, protocol class, both addresses, sequence control, SS7 hop counter, data. The source's refusals,
     // the destination's (15, 11, 9, 10 for each other, 10 for the whole), 10 for the data, 14.
-    pub fn cldt(
+    pub fn cldt<'a>(
         routing_context: u32,
         protocol_class: u8,
-        source: SuaAddress,
-        source_values: &[u8],
-        source_tags: &[u16],
-        source_starts: &[usize],
-        source_lengths: &[usize],
-        destination: SuaAddress,
-        destination_values: &[u8],
-        destination_tags: &[u16],
-        destination_starts: &[usize],
-        destination_lengths: &[usize],
+        source: &'a SuaAddress,
+        source_others: Records<'a>,
+        destination: &'a SuaAddress,
+        destination_others: Records<'a>,
         sequence_control: u32,
-        has_ss7_hop_count: bool,
-        ss7_hop_count: u8,
-        data: &[u8],
+        ss7_hop_count: Option<u8>,
+        data: &'a [u8],
         out: &mut [u8],
-    ) -> Counted
-        ensures { delivered (counted_of result) out.new
+    ) -> Result<usize, Refusal>
+        ensures { delivered (outcome_of result) out.new
             ≡ deliver
             (cldt routing_context protocol_class
-            source source_values.now
-            (table source_tags.now source_starts.now source_lengths.now)
-            destination destination_values.now
-            (table destination_tags.now destination_starts.now destination_lengths.now)
-            sequence_control has_ss7_hop_count ss7_hop_count «data».now)
+            source.now source_others.entry.values.now source_others.entry.rows.now
+            destination.now destination_others.entry.values.now destination_others.entry.rows.now
+            sequence_control ss7_hop_count «data».now)
             out.old }
     {
-        connectionless(
-            MessageType::Cldt,
-            routing_context,
-            tags::PROTOCOL_CLASS,
-            protocol_class as u32,
-            source,
-            source_values,
-            source_tags,
-            source_starts,
-            source_lengths,
-            destination,
-            destination_values,
-            destination_tags,
-            destination_starts,
-            destination_lengths,
-            Part::Number(true, tags::SEQUENCE_CONTROL, sequence_control),
-            Part::Number(
-                has_ss7_hop_count,
-                tags::SS7_HOP_COUNTER,
-                ss7_hop_count as u32,
-            ),
-            Part::Octets(true, tags::DATA),
-            data,
-            out,
-        )
+        let parts = [
+            Some(Part::Number(tags::ROUTING_CONTEXT, routing_context)),
+            Some(Part::Number(tags::PROTOCOL_CLASS, protocol_class.into())),
+            Some(Part::Address(tags::SOURCE_ADDRESS, source, source_others)),
+            Some(Part::Address(
+                tags::DESTINATION_ADDRESS,
+                destination,
+                destination_others,
+            )),
+            Some(Part::Number(tags::SEQUENCE_CONTROL, sequence_control)),
+            number(tags::SS7_HOP_COUNTER, ss7_hop_count.map(u32::from)),
+            Some(Part::Octets(tags::DATA, data)),
+        ];
+        write(MessageType::Cldt, &parts, out)
     }
 
     // CLDR: routing context, SCCP cause, both addresses, data. The source's refusals, the destination's, 10 for the data, 14.
-    pub fn cldr(
+    pub fn cldr<'a>(
         routing_context: u32,
         cause_type: u8,
         cause_value: u8,
-        source: SuaAddress,
-        source_values: &[u8],
-        source_tags: &[u16],
-        source_starts: &[usize],
-        source_lengths: &[usize],
-        destination: SuaAddress,
-        destination_values: &[u8],
-        destination_tags: &[u16],
-        destination_starts: &[usize],
-        destination_lengths: &[usize],
-        has_data: bool,
-        data: &[u8],
+        source: &'a SuaAddress,
+        source_others: Records<'a>,
+        destination: &'a SuaAddress,
+        destination_others: Records<'a>,
+        data: Option<&'a [u8]>,
         out: &mut [u8],
-    ) -> Counted
-        ensures { delivered (counted_of result) out.new
+    ) -> Result<usize, Refusal>
+        ensures { delivered (outcome_of result) out.new
             ≡ deliver
             (cldr routing_context cause_type cause_value
-            source source_values.now
-            (table source_tags.now source_starts.now source_lengths.now)
-            destination destination_values.now
-            (table destination_tags.now destination_starts.now destination_lengths.now)
-            has_data «data».now)
+            source.now source_others.entry.values.now source_others.entry.rows.now
+            destination.now destination_others.entry.values.now destination_others.entry.rows.now
+            (option_copied «data».entry))
             out.old }
     {
-        connectionless(
-            MessageType::Cldr,
-            routing_context,
-            tags::SCCP_CAUSE,
-            (cause_type as u32) * 256 + (cause_value as u32),
-            source,
-            source_values,
-            source_tags,
-            source_starts,
-            source_lengths,
-            destination,
-            destination_values,
-            destination_tags,
-            destination_starts,
-            destination_lengths,
-            Part::Absent,
-            Part::Absent,
-            Part::Octets(has_data, tags::DATA),
-            data,
-            out,
-        )
+        let cause = u32::from_be_bytes([0, 0, cause_type, cause_value]);
+        let parts = [
+            Some(Part::Number(tags::ROUTING_CONTEXT, routing_context)),
+            Some(Part::Number(tags::SCCP_CAUSE, cause)),
+            Some(Part::Address(tags::SOURCE_ADDRESS, source, source_others)),
+            Some(Part::Address(
+                tags::DESTINATION_ADDRESS,
+                destination,
+                destination_others,
+            )),
+            octets(tags::DATA, data),
+        ];
+        write(MessageType::Cldr, &parts, out)
     }
 
     // ASP Up: ASP identifier, info string. 10, 14.
     pub fn asp_up(
-        has_asp_id: bool,
-        asp_id: u32,
-        has_info: bool,
-        info: &[u8],
+        asp_id: Option<u32>,
+        info: Option<&[u8]>,
         out: &mut [u8],
-    ) -> Counted
-        ensures { delivered (counted_of result) out.new
-            ≡ deliver (asp_up has_asp_id asp_id has_info info.now) out.old }
+    ) -> Result<usize, Refusal>
+        ensures { delivered (outcome_of result) out.new
+            ≡ deliver (asp_up asp_id (option_copied info.entry)) out.old }
     {
-        plain(
-            MessageType::AspUp,
-            Part::Absent,
-            Part::Number(has_asp_id, tags::ASP_IDENTIFIER, asp_id),
-            Part::Octets(has_info, tags::INFO_STRING),
-            info,
-            &[],
-            out,
-        )
+        let asp_id = number(tags::ASP_IDENTIFIER, asp_id);
+        let info = octets(tags::INFO_STRING, info);
+        write(MessageType::AspUp, &[asp_id, info], out)
     }
 
     // ASP Up Ack: info string. 10, 14.
-    pub fn asp_up_ack(has_info: bool, info: &[u8], out: &mut [u8]) -> Counted
-        ensures { delivered (counted_of result) out.new
-            ≡ deliver (info_only M.AspUpAck has_info info.now) out.old }
+    pub fn asp_up_ack(info: Option<&[u8]>, out: &mut [u8]) -> Result<usize, Refusal>
+        ensures { delivered (outcome_of result) out.new
+            ≡ deliver (info_only M.AspUpAck (option_copied info.entry)) out.old }
     {
-        info_only(MessageType::AspUpAck, has_info, info, out)
+        info_only(MessageType::AspUpAck, info, out)
     }
 
     // ASP Down: info string. 10, 14.
-    pub fn asp_down(has_info: bool, info: &[u8], out: &mut [u8]) -> Counted
-        ensures { delivered (counted_of result) out.new
-            ≡ deliver (info_only M.AspDown has_info info.now) out.old }
+    pub fn asp_down(info: Option<&[u8]>, out: &mut [u8]) -> Result<usize, Refusal>
+        ensures { delivered (outcome_of result) out.new
+            ≡ deliver (info_only M.AspDown (option_copied info.entry)) out.old }
     {
-        info_only(MessageType::AspDown, has_info, info, out)
+        info_only(MessageType::AspDown, info, out)
     }
 
     // ASP Down Ack: info string. 10, 14.
-    pub fn asp_down_ack(has_info: bool, info: &[u8], out: &mut [u8]) -> Counted
-        ensures { delivered (counted_of result) out.new
-            ≡ deliver (info_only M.AspDownAck has_info info.now) out.old }
+    pub fn asp_down_ack(info: Option<&[u8]>, out: &mut [u8]) -> Result<usize, Refusal>
+        ensures { delivered (outcome_of result) out.new
+            ≡ deliver (info_only M.AspDownAck (option_copied info.entry)) out.old }
     {
-        info_only(MessageType::AspDownAck, has_info, info, out)
+        info_only(MessageType::AspDownAck, info, out)
     }
 
     // ASP Active: traffic mode type, routing context. 14.
     pub fn asp_active(
-        has_traffic_mode: bool,
-        traffic_mode: u32,
-        has_routing_context: bool,
-        routing_context: u32,
+        traffic_mode: Option<u32>,
+        routing_context: Option<u32>,
         out: &mut [u8],
-    ) -> Counted
-        ensures { delivered (counted_of result) out.new
-            ≡ deliver (traffic_and_rc M.AspActive has_traffic_mode traffic_mode has_routing_context routing_context)
-            out.old }
+    ) -> Result<usize, Refusal>
+        ensures { delivered (outcome_of result) out.new
+            ≡ deliver (traffic_and_rc M.AspActive traffic_mode routing_context) out.old }
     {
-        traffic_and_rc(
-            MessageType::AspActive,
-            has_traffic_mode,
-            traffic_mode,
-            has_routing_context,
-            routing_context,
-            out,
-        )
+        traffic_and_rc(MessageType::AspActive, traffic_mode, routing_context, out)
     }
 
     // ASP Active Ack: traffic mode type, routing context. 14.
     pub fn asp_active_ack(
-        has_traffic_mode: bool,
-        traffic_mode: u32,
-        has_routing_context: bool,
-        routing_context: u32,
+        traffic_mode: Option<u32>,
+        routing_context: Option<u32>,
         out: &mut [u8],
-    ) -> Counted
-        ensures { delivered (counted_of result) out.new
-            ≡ deliver (traffic_and_rc M.AspActiveAck has_traffic_mode traffic_mode has_routing_context routing_context)
-            out.old }
+    ) -> Result<usize, Refusal>
+        ensures { delivered (outcome_of result) out.new
+            ≡ deliver (traffic_and_rc M.AspActiveAck traffic_mode routing_context) out.old }
     {
         traffic_and_rc(
             MessageType::AspActiveAck,
-            has_traffic_mode,
             traffic_mode,
-            has_routing_context,
             routing_context,
             out,
         )
     }
 
     // ASP Inactive: routing context. 14.
-    pub fn asp_inactive(has_routing_context: bool, routing_context: u32, out: &mut [u8]) -> Counted
-        ensures { delivered (counted_of result) out.new
-            ≡ deliver (rc_only M.AspInactive has_routing_context routing_context) out.old }
+    pub fn asp_inactive(routing_context: Option<u32>, out: &mut [u8]) -> Result<usize, Refusal>
+        ensures { delivered (outcome_of result) out.new
+            ≡ deliver (rc_only M.AspInactive routing_context) out.old }
     {
-        rc_only(
-            MessageType::AspInactive,
-            has_routing_context,
-            routing_context,
-            out,
-        )
+        rc_only(MessageType::AspInactive, routing_context, out)
     }
 
     // ASP Inactive Ack: routing context. 14.
-    pub fn asp_inactive_ack(
-        has_routing_context: bool,
-        routing_context: u32,
-        out: &mut [u8],
-    ) -> Counted
-        ensures { delivered (counted_of result) out.new
-            ≡ deliver (rc_only M.AspInactiveAck has_routing_context routing_context) out.old }
+    pub fn asp_inactive_ack(routing_context: Option<u32>, out: &mut [u8]) -> Result<usize, Refusal>
+        ensures { delivered (outcome_of result) out.new
+            ≡ deliver (rc_only M.AspInactiveAck routing_context) out.old }
     {
-        rc_only(
-            MessageType::AspInactiveAck,
-            has_routing_context,
-            routing_context,
-            out,
-        )
+        rc_only(MessageType::AspInactiveAck, routing_context, out)
     }
 
     // Heartbeat: heartbeat data. 10, 14.
-    pub fn heartbeat(has_data: bool, data: &[u8], out: &mut [u8]) -> Counted
-        ensures { delivered (counted_of result) out.new
-            ≡ deliver (heartbeat_like M.Heartbeat has_data «data».now) out.old }
+    pub fn heartbeat(data: Option<&[u8]>, out: &mut [u8]) -> Result<usize, Refusal>
+        ensures { delivered (outcome_of result) out.new
+            ≡ deliver (heartbeat_like M.Heartbeat (option_copied «data».entry)) out.old }
     {
-        heartbeat_like(MessageType::Heartbeat, has_data, data, out)
+        heartbeat_like(MessageType::Heartbeat, data, out)
     }
 
     // Heartbeat Ack: heartbeat data. 10, 14.
-    pub fn heartbeat_ack(has_data: bool, data: &[u8], out: &mut [u8]) -> Counted
-        ensures { delivered (counted_of result) out.new
-            ≡ deliver (heartbeat_like M.HeartbeatAck has_data «data».now) out.old }
+    pub fn heartbeat_ack(data: Option<&[u8]>, out: &mut [u8]) -> Result<usize, Refusal>
+        ensures { delivered (outcome_of result) out.new
+            ≡ deliver (heartbeat_like M.HeartbeatAck (option_copied «data».entry)) out.old }
     {
-        heartbeat_like(MessageType::HeartbeatAck, has_data, data, out)
+        heartbeat_like(MessageType::HeartbeatAck, data, out)
     }
 
     // Error: error code, routing context, diagnostic information. 10, 14.
     pub fn error(
         error_code: u32,
-        has_routing_context: bool,
-        routing_context: u32,
-        has_diagnostic_info: bool,
-        diagnostic_info: &[u8],
+        routing_context: Option<u32>,
+        diagnostic_info: Option<&[u8]>,
         out: &mut [u8],
-    ) -> Counted
-        ensures { delivered (counted_of result) out.new
-            ≡ deliver
-            (error_message error_code has_routing_context routing_context has_diagnostic_info diagnostic_info.now)
-            out.old }
+    ) -> Result<usize, Refusal>
+        ensures { delivered (outcome_of result) out.new
+            ≡ deliver (error_message error_code routing_context (option_copied diagnostic_info.entry)) out.old }
     {
-        plain(
+        let error_code = Some(Part::Number(tags::ERROR_CODE, error_code));
+        let routing_context = number(tags::ROUTING_CONTEXT, routing_context);
+        let diagnostic_info = octets(tags::DIAGNOSTIC_INFO, diagnostic_info);
+        write(
             MessageType::Error,
-            Part::Number(true, tags::ERROR_CODE, error_code),
-            Part::Number(has_routing_context, tags::ROUTING_CONTEXT, routing_context),
-            Part::Octets(has_diagnostic_info, tags::DIAGNOSTIC_INFO),
-            diagnostic_info,
-            &[],
+            &[error_code, routing_context, diagnostic_info],
             out,
         )
     }
@@ -486,80 +321,52 @@ impl SuaMessage {
     // Notify: status, ASP identifier, routing context. 14.
     pub fn notify(
         status: u32,
-        has_asp_id: bool,
-        asp_id: u32,
-        has_routing_context: bool,
-        routing_context: u32,
+        asp_id: Option<u32>,
+        routing_context: Option<u32>,
         out: &mut [u8],
-    ) -> Counted
-        ensures { delivered (counted_of result) out.new
-            ≡ deliver (notify status has_asp_id asp_id has_routing_context routing_context) out.old }
+    ) -> Result<usize, Refusal>
+        ensures { delivered (outcome_of result) out.new
+            ≡ deliver (notify status asp_id routing_context) out.old }
     {
-        plain(
-            MessageType::Notify,
-            Part::Number(true, tags::STATUS, status),
-            Part::Number(has_asp_id, tags::ASP_IDENTIFIER, asp_id),
-            Part::Number(has_routing_context, tags::ROUTING_CONTEXT, routing_context),
-            &[],
-            &[],
-            out,
-        )
+        let status = Some(Part::Number(tags::STATUS, status));
+        let asp_id = number(tags::ASP_IDENTIFIER, asp_id);
+        let routing_context = number(tags::ROUTING_CONTEXT, routing_context);
+        write(MessageType::Notify, &[status, asp_id, routing_context], out)
     }
 
     // Destination Unavailable: routing context, affected point codes. 10, 14.
     pub fn duna(
-        has_routing_context: bool,
-        routing_context: u32,
+        routing_context: Option<u32>,
         affected_pcs: &[u32],
         out: &mut [u8],
-    ) -> Counted
-        ensures { delivered (counted_of result) out.new
-            ≡ deliver (snm M.Duna has_routing_context routing_context affected_pcs.now) out.old }
+    ) -> Result<usize, Refusal>
+        ensures { delivered (outcome_of result) out.new
+            ≡ deliver (snm M.Duna routing_context affected_pcs.now) out.old }
     {
-        snm(
-            MessageType::Duna,
-            has_routing_context,
-            routing_context,
-            affected_pcs,
-            out,
-        )
+        snm(MessageType::Duna, routing_context, affected_pcs, out)
     }
 
     // Destination Available: routing context, affected point codes. 10, 14.
     pub fn dava(
-        has_routing_context: bool,
-        routing_context: u32,
+        routing_context: Option<u32>,
         affected_pcs: &[u32],
         out: &mut [u8],
-    ) -> Counted
-        ensures { delivered (counted_of result) out.new
-            ≡ deliver (snm M.Dava has_routing_context routing_context affected_pcs.now) out.old }
+    ) -> Result<usize, Refusal>
+        ensures { delivered (outcome_of result) out.new
+            ≡ deliver (snm M.Dava routing_context affected_pcs.now) out.old }
     {
-        snm(
-            MessageType::Dava,
-            has_routing_context,
-            routing_context,
-            affected_pcs,
-            out,
-        )
+        snm(MessageType::Dava, routing_context, affected_pcs, out)
     }
 
     // Destination State Audit: routing context, affected point codes. 10, 14.
     pub fn daud(
-        has_routing_context: bool,
-        routing_context: u32,
+        routing_context: Option<u32>,
         affected_pcs: &[u32],
         out: &mut [u8],
-    ) -> Counted
-        ensures { delivered (counted_of result) out.new
-            ≡ deliver (snm M.Daud has_routing_context routing_context affected_pcs.now) out.old }
+    ) -> Result<usize, Refusal>
+        ensures { delivered (outcome_of result) out.new
+            ≡ deliver (snm M.Daud routing_context affected_pcs.now) out.old }
     {
-        snm(
-            MessageType::Daud,
-            has_routing_context,
-            routing_context,
-            affected_pcs,
-            out,
-        )
+        snm(MessageType::Daud, routing_context, affected_pcs, out)
     }
 }

@@ -122,12 +122,12 @@ fn of_records(call: &Call, lent: &mut Lent, line: &mut Line) -> fmt::Result {
 // The entries that fill a report: its four numbers, and what the buffer holds.
 fn reported(call: &Call, lent: &mut Lent, line: &mut Line) -> fmt::Result {
     let a = call.string(0);
-    let room_at = if call.name == b"read" { 0 } else { 2 };
+    let room_at = if call.is(b"read") { 0 } else { 2 };
     let room = call.get::<usize>(room_at).min(lent.out.len());
     let out = &mut lent.out[..room];
     out.fill(0xEE);
     let mut report = [0u64; 4];
-    if call.name == b"read" {
+    if call.is(b"read") {
         entry::sua_read(a, out, &mut report);
     } else {
         entry::sua_encode(call.get(0), call.get(1), a, out, &mut report);
@@ -192,7 +192,7 @@ fn with_code(call: &Call, lent: &mut Lent, line: &mut Line) -> fmt::Result {
 // The calls that write point codes.
 fn of_codes(call: &Call, lent: &mut Lent, line: &mut Line) -> fmt::Result {
     let context = call.given(0);
-    let at = if call.name == b"pack_affected_point_codes" { 1 } else { 3 };
+    let at = if call.is(b"pack_affected_point_codes") { 1 } else { 3 };
     let count = call.codes(at, lent.codes).len();
     let Lent { out, codes } = lent;
     let pcs = &codes[..count.min(codes.len())];
@@ -208,7 +208,7 @@ fn of_codes(call: &Call, lent: &mut Lent, line: &mut Line) -> fmt::Result {
 // CLDT and CLDR. The octet strings are the digits of both addresses, their values, and data; both tables stand behind both
 // addresses.
 fn with_addresses(call: &Call, lent: &mut Lent, line: &mut Line) -> fmt::Result {
-    let cldt = call.name == b"cldt";
+    let cldt = call.is(b"cldt");
     let at = if cldt { 6 } else { 5 };
     let source = address(call, at, call.string(0));
     let destination = address(call, at + 15, call.string(1));

@@ -68,6 +68,10 @@ impl Table {
 }
 
 impl<'a> Call<'a> {
+    pub(crate) fn is(&self, name: &[u8]) -> bool {
+        self.name == name
+    }
+
     // The number at a place, or 0.
     pub(crate) fn get<N: Number>(&self, i: usize) -> N {
         N::of(self.numbers.get(i).copied().unwrap_or(0))

@@ -88,7 +88,7 @@ fn lent_codes<'a>(call: &Call, at: usize, codes: &'a mut [u32]) -> &'a mut [u32]
 // The calls that store codes, or are given some as a set.
 pub(crate) fn codes(call: &Call, codes: &mut [u32], line: &mut Line) -> fmt::Result {
     let a = call.string(0);
-    if call.name == b"contexts_in" {
+    if call.is(b"contexts_in") {
         let table = call.table(1);
         let lent = Records::new(a, table.rows());
         return message(call)
@@ -96,7 +96,7 @@ pub(crate) fn codes(call: &Call, codes: &mut [u32], line: &mut Line) -> fmt::Res
             .show(line);
     }
     let room;
-    if call.name == b"affected_point_codes" {
+    if call.is(b"affected_point_codes") {
         let table = call.table(2);
         room = lent_codes(call, 1, codes);
         message(call)
@@ -158,7 +158,7 @@ fn data(call: &Call, line: &mut Line) -> fmt::Result {
 // The calls that are given a table, and answer numbers or an address.
 pub(crate) fn answer(call: &Call, line: &mut Line) -> fmt::Result {
     let a = call.string(0);
-    let table = call.table(if call.name == b"find_parameter" { 2 } else { 1 });
+    let table = call.table(if call.is(b"find_parameter") { 2 } else { 1 });
     let lent = Records::new(a, table.rows());
     let m = message(call);
     match call.name {

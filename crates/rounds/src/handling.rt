@@ -1,113 +1,69 @@
 // The handling fields of a message: seven accessors, one after the other, beside the one walk.
-use crate::sums;
-use message::SuaMessage;
+ghost use Rattle.std.specs.Prelude.{◌≤◌};
 
-// Alters an octet behind the message and a row behind the last one, so that no round is given what an earlier one was.
-fn alter(
-    i: u32,
-    values: &mut [u8; 8192],
-    tags: &mut [u16; 1001],
-    starts: &mut [usize; 1001],
-    lengths: &mut [usize; 1001],
-) {
-    values[8191] = (i % 256) as u8;
-    tags[1000] = (i % 65536) as u16;
-    starts[1000] = i as usize;
-    lengths[1000] = i as usize;
+use crate::sums::Sum;
+use message::SuaMessage;
+use parameter::Place;
+use parameter::table::Records;
+
+// A message's octets, and the rows of its parameters.
+#[derive(Drop)]
+pub(crate) struct Lent<'a> {
+    pub(crate) octets: &'a mut [u8; 8192],
+    pub(crate) rows: &'a mut [Place; 1001],
 }
 
-// The five numbers, each by its accessor.
-fn numbers(
-    sum: u64,
-    m: SuaMessage,
-    values: &[u8],
-    tags: &[u16],
-    starts: &[usize],
-    lengths: &[usize],
-) -> u64 {
-    let context = sums::number(sum, m.routing_context(values, tags, starts, lengths));
-    let class = sums::octet(context, m.protocol_class(values, tags, starts, lengths));
-    let control = sums::number(class, m.sequence_control(values, tags, starts, lengths));
-    let hops = sums::octet(control, m.ss7_hop_count(values, tags, starts, lengths));
-    sums::cause(hops, m.sccp_cause(values, tags, starts, lengths))
+impl<'a> Lent<'a> {
+    fn records(&self) -> Records<'_> {
+        Records::new(self.octets, self.rows)
+    }
+
+    // Alters an octet behind the message and a row behind the last one, so that no round is given what an earlier one was.
+    fn alter(&mut self, i: u32) {
+        let [low, second, ..] = i.to_le_bytes();
+        self.octets[8191] = low;
+        self.rows[1000] = Place {
+            tag: u16::from_le_bytes([low, second]),
+            start: i as usize,
+            length: i as usize,
+        };
+    }
 }
 
 // All seven, each by its accessor.
-fn seven(
-    sum: u64,
-    m: SuaMessage,
-    values: &[u8],
-    tags: &[u16],
-    starts: &[usize],
-    lengths: &[usize],
-) -> u64 {
-    let first = numbers(sum, m, values, tags, starts, lengths);
-    let mut ot = [0u16; 2];
-    let mut os = [0usize; 2];
-    let mut ol = [0usize; 2];
-    let source = m.source_address(values, tags, starts, lengths, &mut ot, &mut os, &mut ol);
-    let destination = m.destination_address(
-        values, tags, starts, lengths, &mut ot, &mut os, &mut ol,
-    );
-    sums::address(sums::address(first, source), destination)
+fn seven(sum: Sum, m: SuaMessage, lent: Records) -> Sum {
+    let mut others = [Place { tag: 0, start: 0, length: 0 }; 2];
+    let first = sum
+        .add(&m.routing_context(lent))
+        .add(&m.protocol_class(lent))
+        .add(&m.sequence_control(lent))
+        .add(&m.ss7_hop_count(lent))
+        .add(&m.sccp_cause(lent));
+    let second = first.add(&m.source_address(lent, &mut others));
+    second.add(&m.destination_address(lent, &mut others))
 }
 
 // All seven by the one walk.
-fn screen(
-    sum: u64,
-    m: SuaMessage,
-    values: &[u8],
-    tags: &[u16],
-    starts: &[usize],
-    lengths: &[usize],
-) -> u64 {
-    let mut st = [0u16; 2];
-    let mut ss = [0usize; 2];
-    let mut sl = [0usize; 2];
-    let mut dt = [0u16; 2];
-    let mut ds = [0usize; 2];
-    let mut dl = [0usize; 2];
-    sums::screen(
-        sum,
-        m.screen(
-            values, tags, starts, lengths, &mut st, &mut ss, &mut sl, &mut dt, &mut ds, &mut dl,
-        ),
-    )
+fn screen(sum: Sum, m: SuaMessage, lent: Records) -> Sum {
+    let mut sources = [Place { tag: 0, start: 0, length: 0 }; 2];
+    let mut destinations = sources;
+    sum.add(&m.screen(lent, &mut sources, &mut destinations))
 }
 
-// One round of a work.
-fn round(
-    work: u8,
-    sum: u64,
-    m: SuaMessage,
-    values: &[u8],
-    tags: &[u16],
-    starts: &[usize],
-    lengths: &[usize],
-) -> u64 {
-    match work {
-        1 => seven(sum, m, values, tags, starts, lengths),
-        2 => screen(sum, m, values, tags, starts, lengths),
-        _ => sums::add(sum, 1),
+// The sum of so many rounds of a work on the message of the first n octets; 0 where it is refused.
+pub(crate) fn rounds(work: u8, count: u32, n: usize, lent: &mut Lent) -> u64 {
+    let octets = &lent.octets[..n.min(8192)];
+    let Ok(m) = SuaMessage::decode(octets, lent.rows) else {
+        return 0;
+    };
+    let mut sum = Sum(0);
+    for i in 0..count {
+        lent.alter(i);
+        sum = match work {
+            1 => seven(sum, m, lent.records()),
+            2 => screen(sum, m, lent.records()),
+            _ => sum.add(&1u64),
+        };
     }
-}
-
-// The sum of so many rounds.
-pub(crate) fn rounds(
-    work: u8,
-    count: u32,
-    m: SuaMessage,
-    values: &mut [u8; 8192],
-    tags: &mut [u16; 1001],
-    starts: &mut [usize; 1001],
-    lengths: &mut [usize; 1001],
-) -> u64 {
-    let mut sum: u64 = 0;
-    let mut i: u32 = 0;
-    while i < count {
-        alter(i, values, tags, starts, lengths);
-        sum = round(work, sum, m, values, tags, starts, lengths);
-        i += 1;
-    }
-    sum
+    sum.0
 }

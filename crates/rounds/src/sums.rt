@@ -1,107 +1,140 @@
 // Sums of answers, in which the order of the numbers counts.
-use address::decode::AddressRead;
-use address::title::Verdict;
 use address::{GlobalTitle, SuaAddress};
 use bcd::error::Refusal;
-use bcd::smaller;
-use message::accessors::{Cause, Octet, Screen};
-use parameter::Number;
-use std::num::wrapping_add_u64;
+use message::accessors::{SccpCause, Screen};
 
-// Three times a sum, and a number, modulo 2^64.
-pub(crate) fn add(sum: u64, n: u64) -> u64 {
-    let twice = wrapping_add_u64(sum, sum);
-    wrapping_add_u64(twice, wrapping_add_u64(sum, n))
+// A sum of numbers.
+#[derive(Clone, Copy)]
+pub(crate) struct Sum(pub(crate) u64);
+
+// What can be added to a sum.
+pub(crate) trait Summand {
+    fn add_to(&self, sum: Sum) -> Sum;
 }
 
-pub(crate) fn add_octet(sum: u64, n: u8) -> u64 {
-    add(sum, n as u64)
-}
-
-fn flag(b: bool) -> u64 {
-    if b { 1 } else { 2 }
-}
-
-// A refusal's number, beyond those of all values.
-pub(crate) fn refused(sum: u64, r: Refusal) -> u64 {
-    add(add(sum, 5000000001), report::number(r) as u64)
-}
-
-pub(crate) fn number(sum: u64, n: Number) -> u64 {
-    match n {
-        Number::Value(v) => add(sum, v as u64),
-        Number::None => add(sum, 5000000000),
-        Number::Refused(_) => add(sum, 5000000001),
+// Three times the sum, and the number, modulo 2^64.
+impl Summand for u64 {
+    fn add_to(&self, sum: Sum) -> Sum {
+        Sum(sum.0.wrapping_mul(3).wrapping_add(*self))
     }
 }
 
-pub(crate) fn octet(sum: u64, n: Octet) -> u64 {
-    match n {
-        Octet::Value(v) => add(sum, v as u64),
-        Octet::None => add(sum, 5000000000),
-        Octet::Refused(_) => add(sum, 5000000001),
+impl Summand for u8 {
+    fn add_to(&self, sum: Sum) -> Sum {
+        sum.add(&u64::from(*self))
     }
 }
 
-pub(crate) fn cause(sum: u64, n: Cause) -> u64 {
-    match n {
-        Cause::Value(v) => add(add(sum, v.cause_type as u64), v.cause_value as u64),
-        Cause::None => add(sum, 5000000000),
-        Cause::Refused(_) => add(sum, 5000000001),
+impl Summand for u32 {
+    fn add_to(&self, sum: Sum) -> Sum {
+        sum.add(&u64::from(*self))
     }
 }
 
-// The first `count` digits.
-fn digits(sum: u64, list: &[u8; 255], count: usize) -> u64 {
-    let n = smaller(count, 255);
-    let mut total = sum;
-    let mut i = 0;
-    while i < n {
-        total = add_octet(total, list[i]);
-        i += 1;
+impl Summand for usize {
+    fn add_to(&self, sum: Sum) -> Sum {
+        sum.add(&(*self as u64))
     }
-    total
 }
 
-fn title(sum: u64, t: GlobalTitle) -> u64 {
-    let list = t.digits;
-    let first = add(add(sum, t.gti as u64), t.translation_type as u64);
-    let second = add(
-        add(first, t.numbering_plan as u64),
-        t.nature_of_address as u64,
-    );
-    digits(add(second, t.count as u64), &list, t.count)
+impl Summand for bool {
+    fn add_to(&self, sum: Sum) -> Sum {
+        sum.add(if *self { &1u64 } else { &2u64 })
+    }
 }
 
-fn fields(sum: u64, a: SuaAddress) -> u64 {
-    let routing = a.routing_indicator;
-    let t = a.global_title;
-    let first = add(add(sum, flag(a.include_gt)), flag(a.include_pc));
-    let second = add(add(first, flag(a.include_ssn)), flag(a.has_title));
-    let third = add(add(second, flag(a.has_point_code)), flag(a.has_ssn));
-    let fourth = add(add(third, routing.value() as u64), a.point_code as u64);
-    title(add(add(fourth, a.ssn as u64), a.other_count as u64), t)
+// What is there, or a number beyond those of all values.
+impl<T: Summand> Summand for Option<T> {
+    fn add_to(&self, sum: Sum) -> Sum {
+        match self {
+            Some(value) => sum.add(value),
+            None => sum.add(&5000000000u64),
+        }
+    }
 }
 
-pub(crate) fn address(sum: u64, read: AddressRead) -> u64 {
-    let verdict = read.verdict;
-    let a = read.address;
-    match verdict {
-        Verdict::Done => fields(sum, a),
-        Verdict::Refused(r) => refused(sum, r),
+// What an accessor answers; a refusal is a number beyond those of all values.
+impl<T: Summand> Summand for Result<Option<T>, Refusal> {
+    fn add_to(&self, sum: Sum) -> Sum {
+        match self {
+            Ok(answer) => sum.add(answer),
+            Err(_) => sum.add(&5000000001u64),
+        }
+    }
+}
+
+// An address that was read, or a refusal with its number.
+impl Summand for Result<SuaAddress, Refusal> {
+    fn add_to(&self, sum: Sum) -> Sum {
+        match self {
+            Ok(address) => sum.add(address),
+            Err(refusal) => sum.refused(*refusal),
+        }
+    }
+}
+
+impl Summand for SccpCause {
+    fn add_to(&self, sum: Sum) -> Sum {
+        sum.add(&self.cause_type).add(&self.cause_value)
+    }
+}
+
+impl Summand for GlobalTitle {
+    fn add_to(&self, sum: Sum) -> Sum {
+        let mut total = sum
+            .add(&self.gti)
+            .add(&self.translation_type)
+            .add(&self.numbering_plan)
+            .add(&self.nature_of_address)
+            .add(&self.count);
+        for digit in self.digits.iter().take(self.count) {
+            total = total.add(digit);
+        }
+        total
+    }
+}
+
+impl Summand for SuaAddress {
+    fn add_to(&self, sum: Sum) -> Sum {
+        let flags = sum
+            .add(&self.include_gt)
+            .add(&self.include_pc)
+            .add(&self.include_ssn)
+            .add(&self.global_title.is_some())
+            .add(&self.point_code.is_some())
+            .add(&self.ssn.is_some());
+        let numbers = flags
+            .add(&u64::from(self.routing_indicator.value()))
+            .add(&self.point_code.unwrap_or(0))
+            .add(&self.ssn.unwrap_or(0))
+            .add(&self.other_count);
+        match &self.global_title {
+            Some(title) => numbers.add(title),
+            None => numbers.add(&0u64).add(&0u64).add(&0u64).add(&0u64).add(&0u64),
+        }
     }
 }
 
 // All handling fields.
-pub(crate) fn screen(sum: u64, s: Screen) -> u64 {
-    let context = s.routing_context;
-    let class = s.protocol_class;
-    let control = s.sequence_control;
-    let hops = s.ss7_hop_count;
-    let why = s.sccp_cause;
-    let source = s.source_address;
-    let destination = s.destination_address;
-    let first = number(octet(number(sum, context), class), control);
-    let second = cause(octet(first, hops), why);
-    address(address(second, source), destination)
+impl Summand for Screen {
+    fn add_to(&self, sum: Sum) -> Sum {
+        sum.add(&self.routing_context)
+            .add(&self.protocol_class)
+            .add(&self.sequence_control)
+            .add(&self.ss7_hop_count)
+            .add(&self.sccp_cause)
+            .add(&self.source_address)
+            .add(&self.destination_address)
+    }
+}
+
+impl Sum {
+    // A refusal's number, behind a number beyond those of all values.
+    pub(crate) fn refused(self, refusal: Refusal) -> Sum {
+        self.add(&5000000001u64).add(&report::number(refusal))
+    }
+
+    pub(crate) fn add<T: Summand>(self, summand: &T) -> Sum {
+        summand.add_to(self)
+    }
 }

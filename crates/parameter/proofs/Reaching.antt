@@ -1,19 +1,22 @@
--- How far a walk has come: from a position, after n parameters, at another, with what is left of the definition.
-use Prim.Native.Nat.{ℕ, suc, ◌+◌, ◌-◌, ◌≤◌, ◌<◌}
+-- How far a walk has come: from a position, at another, with what is left of the definition.
+use Prim.Native.Nat.{ℕ, suc, ◌-◌, ◌≤◌, ◌<◌}
 use mathlib.Core.Path.{◌≡◌, refl, sym, ap, ◌∙◌}
+use mathlib.Core.Logic.{⊎_elim}
 use mathlib.Core.List.{List, [], ◌∷◌, ◌++◌, append_assoc, append-nil}
 use native.Mathlib.Omega.{arith}
-use mathlib.Core.Logic.{⊎_elim}
+use borrow.Author.Tests.{leb-true}
+use lib.Dec.{leb}
 use lib.ListN.{length, length-append}
-use Rattle.bcd.specs.Outcome.{Outcome, accepted, refused, after, mapped, most, bounded}
-use Rattle.bcd.proofs.Outcomes.{never, accepted_inj, le_or_lt, bounded-within, bounded_beyond}
+use Rattle.bcd.specs.Outcome.{Outcome, accepted, refused, after, mapped, bounded, most}
+use Rattle.bcd.proofs.Outcomes.{never, demand_inv, le_or_lt, bounded-within, bounded_beyond}
 use Rattle.parameter.specs.declared.Place.{Place}
 use Rattle.parameter.specs.Walk.{Walked, ended, found, onward, step_at, steps, places}
+use Rattle.parameter.proofs.Walking.{Found, step_inv}
+use Rattle.parameter.proofs.Structure.{places-steps}
 
-pub record Reached (xs : List ℕ) (from n at : ℕ) : Type 0 where
+pub record Reached (xs : List ℕ) (from at : ℕ) : Type 0 where
   pub done : List Place
-  pub counted : length done ≡ n
-  pub left : places xs from ≡ mapped (λ qs. done ++ qs) (steps (length xs - n) xs at)
+  pub left : places xs from ≡ mapped (λ qs. done ++ qs) (places xs at)
 
 pub nothing-done : (o : Outcome (List Place)) → o ≡ mapped (λ qs. [] ++ qs) o
 nothing-done (accepted qs) = refl
@@ -25,69 +28,80 @@ pub one_more :
 one_more done p (accepted qs) = ap accepted (sym (append_assoc done (p ∷ []) qs))
 one_more done p (refused n vs) = refl
 
-pub all_left : (xs : List ℕ) (from : ℕ) → places xs from ≡ mapped (λ qs. [] ++ qs) (steps (length xs - 0) xs from)
-unfolding places
-all_left xs from = let e : length xs - 0 ≡ length xs = omega arith in rw e (nothing-done (steps (length xs) xs from))
+abbrev pub reached_start : (xs : List ℕ) (from : ℕ) → Reached xs from from
+reached_start xs from = record { done = []; left = nothing-done (places xs from) }
 
-unfoldable pub reached_start : (xs : List ℕ) (from : ℕ) → Reached xs from 0 from
-reached_start xs from = record { done = []; counted = refl; left = all_left xs from }
+-- One turn of the definition.
+pub places_turn : (xs : List ℕ) (at : ℕ) (w : Outcome Walked) → step_at xs at ≡ w → places xs at ≡ after w (onward (places xs))
+unfolding places steps
+places_turn xs at w e =
+    places-steps (suc (length xs)) xs at (omega arith) ∙ ap (λ (w : Outcome Walked). after w (onward (steps (length xs) xs))) e
 
--- one turn of the definition
-pub turn :
-    (xs : List ℕ) (n at : ℕ) (w : Outcome Walked)
-    → n < length xs
-    → step_at xs at ≡ w
-    → steps (length xs - n) xs at ≡ after w (onward (steps (length xs - (n + 1)) xs))
-unfolding steps
-turn xs n at w h e = let k : length xs - n ≡ suc (length xs - (n + 1)) = omega arith in rw (k, e)
+-- What a step of the code tells: there are no more octets than the bound, and it is the definition's.
+module _ (xs : List ℕ) (at : ℕ) {w : Walked} (e : accepted w ≡ bounded xs (step_at xs at)) where
+  pub walk_within : length xs ≤ most
+  walk_within = leb-true (length xs) most (demand_inv (leb (length xs) most) _ _ (step_at xs at) (sym e)).0
 
-all_done :
-    (done : List Place) (o : Outcome (List Place))
-    → mapped length (mapped (λ qs. done ++ qs) o) ≡ accepted (length done)
-    → mapped (λ qs. done ++ qs) o ≡ accepted done
-all_done done (accepted []) e = rw append-nil
-all_done done (accepted (q ∷ qs)) e =
-    let z : length (done ++ (q ∷ qs)) ≡ length done = cc in
-    absurd (omega (arith, simp length-append at z))
-all_done done (refused n vs) e = absurd (never e)
+  pub walk_step : step_at xs at ≡ accepted w
+  walk_step = (demand_inv (leb (length xs) most) _ _ (step_at xs at) (sym e)).1
 
--- where parameters were counted, the octets are within the bound
+module _ (xs : List ℕ) (at : ℕ) {p : Place} {next : ℕ} (e : accepted (found p next) ≡ bounded xs (step_at xs at)) where
+  pub walk_found : Found xs at p next
+  walk_found = step_inv xs at (walk_step xs at e)
+
+  -- Fewer octets are left.
+  pub walk_fewer : length xs - next < length xs - at
+  walk_fewer = let f = walk_found in omega (arith, f.least, f.within, f.forward)
+
+module _ {xs : List ℕ} {from at : ℕ} (r : Reached xs from at) where
+  abbrev pub reached_next : (p : Place) (next : ℕ) → step_at xs at ≡ accepted (found p next) → Reached xs from next
+  reached_next p next e = record {
+    done = r.done ++ (p ∷ []);
+    left = r.left ∙ ap (mapped (λ qs. r.done ++ qs)) (places_turn xs at _ e) ∙ one_more r.done p (places xs next);
+  }
+
+  pub reached_end : step_at xs at ≡ accepted ended → places xs from ≡ accepted r.done
+  reached_end e = r.left ∙ ap (mapped (λ qs. r.done ++ qs)) (places_turn xs at _ e) ∙ ap accepted (append-nil r.done)
+
+  pub reached_refused : (n : ℕ) (vs : List ℕ) → step_at xs at ≡ refused n vs → places xs from ≡ refused n vs
+  reached_refused n vs e = r.left ∙ ap (mapped (λ qs. r.done ++ qs)) (places_turn xs at _ e)
+
+  -- One parameter more, the end, or a refusal, as a step of the code answers.
+  abbrev pub walk_more : (p : Place) (next : ℕ) → accepted (found p next) ≡ bounded xs (step_at xs at) → Reached xs from next
+  walk_more p next e = reached_next p next (walk_step xs at e)
+
+  pub walk_end : accepted ended ≡ bounded xs (step_at xs at) → bounded xs (places xs from) ≡ accepted r.done
+  walk_end e = bounded-within xs (places xs from) (walk_within xs at e) ∙ reached_end (walk_step xs at e)
+
+  pub walk_refused : (n : ℕ) (vs : List ℕ) → refused n vs ≡ bounded xs (step_at xs at) → bounded xs (places xs from) ≡ refused n vs
+  walk_refused n vs e =
+      ⊎_elim
+      (λ h. bounded-within xs (places xs from) h ∙ reached_refused n vs (sym (e ∙ bounded-within xs (step_at xs at) h)))
+      (λ h.
+      let twelve = e ∙ bounded_beyond xs (step_at xs at) h in
+      let a : n ≡ 12 = cc in
+      let b : vs ≡ length xs ∷ [] = cc in
+      bounded_beyond xs (places xs from) h ∙ rw (a, b) refl)
+      (le_or_lt (length xs) most)
+
+  -- A walk that has come to as many as there are has come to the end.
+  pub reached_all : accepted (length r.done) ≡ mapped length (places xs from) → places xs from ≡ accepted r.done
+  reached_all e = r.left ∙ all_done r.done (places xs at) (ap (mapped length) (sym r.left) ∙ sym e)
+    where
+      all_done :
+          (done : List Place) (o : Outcome (List Place))
+          → mapped length (mapped (λ qs. done ++ qs) o) ≡ accepted (length done)
+          → mapped (λ qs. done ++ qs) o ≡ accepted done
+      all_done done (accepted []) e = rw append-nil
+      all_done done (accepted (q ∷ qs)) e =
+          let z : length (done ++ (q ∷ qs)) ≡ length done = cc in
+          absurd (omega (arith, simp length-append at z))
+      all_done done (refused n vs) e = absurd (never e)
+
+-- Where parameters were counted, the octets are within the bound.
 pub counted-within : (xs : List ℕ) (from n : ℕ) → accepted n ≡ mapped length (bounded xs (places xs from)) → length xs ≤ most
 counted-within xs from n e =
     ⊎_elim (λ h. h) (λ h. absurd (never (sym (e ∙ ap (mapped length) (bounded_beyond xs (places xs from) h))))) (le_or_lt (length xs) most)
 
 pub counted-places : (xs : List ℕ) (from n : ℕ) → accepted n ≡ mapped length (bounded xs (places xs from)) → accepted n ≡ mapped length (places xs from)
 counted-places xs from n e = e ∙ ap (mapped length) (bounded-within xs (places xs from) (counted-within xs from n e))
-
-module _ {xs : List ℕ} {from n at : ℕ} (r : Reached xs from n at) where
-  pub reached_out : length xs ≤ n → places xs from ≡ accepted r.done
-  unfolding steps
-  reached_out h = let k : length xs - n ≡ 0 = omega arith in r.left ∙ rw (k, append-nil)
-
-  module _ (h : n < length xs) where
-    abbrev pub reached_next : (p : Place) (next : ℕ) → step_at xs at ≡ accepted (found p next) → Reached xs from (n + 1) next
-    reached_next p next e = record {
-      done = r.done ++ (p ∷ []);
-      counted = rw length-append (omega (arith, r.counted));
-      left = r.left ∙ rw (turn xs n at _ h e) (one_more r.done p (steps (length xs - (n + 1)) xs next));
-    }
-
-    pub reached_end : step_at xs at ≡ accepted ended → places xs from ≡ accepted r.done
-    reached_end e = r.left ∙ rw (turn xs n at _ h e, append-nil)
-
-    pub reached_refused : (m : ℕ) (vs : List ℕ) → step_at xs at ≡ refused m vs → places xs from ≡ refused m vs
-    reached_refused m vs e = r.left ∙ rw (turn xs n at _ h e)
-
-  -- places that are known, and their number
-  pub same_count : (count : ℕ) → accepted count ≡ mapped length (places xs from) → places xs from ≡ accepted r.done → count ≡ n
-  same_count count e o = accepted_inj (e ∙ ap (mapped length) o) ∙ r.counted
-
-  -- a walk that has not come to the count has octets left
-  pub reached_short : (count : ℕ) → accepted count ≡ mapped length (places xs from) → n < count → n < length xs
-  reached_short count e h = ⊎_elim (λ k. let s = same_count count e (reached_out k) in absurd (omega arith)) (λ k. k) (le_or_lt (length xs) n)
-
-  -- a walk that has come to the count has come to the end
-  pub reached_all : accepted n ≡ mapped length (places xs from) → places xs from ≡ accepted r.done
-  reached_all e =
-      r.left
-      ∙ all_done r.done (steps (length xs - n) xs at) (ap (mapped length) (sym r.left) ∙ sym e ∙ ap accepted (sym r.counted))

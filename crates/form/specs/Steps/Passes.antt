@@ -20,3 +20,8 @@ pub record Placeable (p : Param) (room : ℕ) : Type 0 where
   pub params : List Param
   pub settles : settled_param built_in p ≡ accepted params
   pub fits : run_length params ≤ room
+
+-- Parameters of the form that are known, and fit in so many octets.
+abbrev pub RunFits : Outcome (List Param) → (room : ℕ) → Type 0
+RunFits (accepted ps) room = run_length ps ≤ room
+RunFits (refused number values) room = ⊥

@@ -1,14 +1,13 @@
--- Distinct refusals, and distinct answers, have distinct outcomes: a contract through `counted_of` says all that one on
--- the enum itself would.
+-- Distinct refusals, and distinct results, have distinct outcomes: a contract through `outcome_of` says all that one on
+-- the result itself would.
 use Prim.Native.Nat.{ℕ}
 use mathlib.Core.Path.{◌≡◌, refl, sym, ap, ap₂, ◌∙◌}
 use mathlib.Core.List.{List, [], ◌∷◌}
 use lib.ListN.{get_or}
-use Rattle.bcd.specs.Answers.{numbered, refusal_of, counted_of}
+use Rattle.std.specs.Prelude.{Result, Ok, Err}
+use Rattle.bcd.specs.Answers.{numbered, refusal_of, outcome_of}
 use Rattle.bcd.specs.declared.error.Refusal.{Refusal}
 use Rattle.bcd.specs.declared.error.Refusal.TheVariants as R
-use Rattle.bcd.specs.declared.error.Counted.{Counted}
-use Rattle.bcd.specs.declared.error.Counted.TheVariants as C
 use Rattle.bcd.proofs.Outcomes.{accepted_inj, never}
 
 -- the refusal of a number, given its values
@@ -64,8 +63,8 @@ refusals_distinct {A} r s e =
     let v : (numbered r).1 ≡ (numbered s).1 = cc in
     sym (named_back r) ∙ ap₂ named n v ∙ named_back s
 
-pub counted-distinct : (r s : Counted) → counted_of r ≡ counted_of s → r ≡ s
-counted-distinct (C.Count n) (C.Count m) e = ap C.Count (accepted_inj e)
-counted-distinct (C.Count n) (C.Refused r) e = absurd (never (sym e))
-counted-distinct (C.Refused r) (C.Count m) e = absurd (never e)
-counted-distinct (C.Refused r) (C.Refused s) e = ap C.Refused (refusals_distinct r s e)
+pub outcomes_distinct : {A : Type 0} (r s : Result A Refusal) → outcome_of r ≡ outcome_of s → r ≡ s
+outcomes_distinct (Ok a) (Ok b) e = ap Ok (accepted_inj e)
+outcomes_distinct (Ok a) (Err s) e = absurd (never (sym e))
+outcomes_distinct (Err r) (Ok b) e = absurd (never e)
+outcomes_distinct (Err r) (Err s) e = ap Err (refusals_distinct r s e)

@@ -1,5 +1,6 @@
 -- Laws and theorems that belong to no one function.
 pub mod Outcomes
+pub mod Results
 pub mod Writing
 pub mod Distinct
 pub mod Below

@@ -4,11 +4,11 @@ use mathlib.Core.Path.{◌≡◌, refl, sym, ap, ap₂, ◌∙◌}
 use mathlib.Core.Logic.{⊎_elim}
 use mathlib.Core.List.{List, [], ◌∷◌, map}
 use native.Mathlib.Omega.{arith}
-use lib.ListN.{length, get_or, take, length-map, length-take, get_or-eq_default}
+use lib.ListN.{length, get_or, take, replicate, length-map, length-take, length-replicate, get_or-eq_default}
 use lib.Seq.{get_or-take, take_all}
-use Rattle.bcd.specs.Outcome.{accepted, refused, most, deliver}
-use Rattle.bcd.specs.Digits.{Alphabet, halves, pack, digits_in, read_digits}
-use Rattle.bcd.proofs.Outcomes.{le_or_lt, bounded-within, bounded_beyond, deliver_refused}
+use Rattle.bcd.specs.Outcome.{accepted, refused, mapped, most, deliver}
+use Rattle.bcd.specs.Digits.{Alphabet, halves, pack, digits_in, digits_record, read_digits}
+use Rattle.bcd.proofs.Outcomes.{le_or_lt, bounded-within, bounded_beyond, deliver_buffer}
 use Rattle.bcd.proofs.Halves.{halves-length, halves_low, halves_high, pack_at}
 
 -- an element of a list that was mapped
@@ -66,21 +66,22 @@ module _ (A : Alphabet) (xs : List ℕ) where
   unfolding digits_in
   digits-most count = rw (← halves-length xs) (ap (map A.char) (take_min count (halves xs)))
 
-  -- reading refuses 12, or stores the digits there are
-  pub reading_refused :
-      (count : ℕ) (out : List ℕ)
-      → most < length xs
-      → record { answer = refused 12 (length xs ∷ []); buffer = out } ≡ deliver (read_digits A xs count) out
+  -- reading refuses 12, or gives the digits there are
+  pub reading_refused : (count : ℕ) → most < length xs → refused 12 (length xs ∷ []) ≡ mapped digits_record (read_digits A xs count)
   unfolding read_digits
-  reading_refused count out h = rw (bounded_beyond xs (accepted (digits_in A xs count)) h) (deliver_refused 12 (length xs ∷ []) out)
+  reading_refused count h = rw (bounded_beyond xs (accepted (digits_in A xs count)) h)
 
   pub reading_done :
-      (count n : ℕ) (d out : List ℕ)
+      (count n : ℕ) (d : List ℕ)
       → length xs ≤ most
       → n ≡ min count (2 * length xs)
-      → record { answer = accepted n; buffer = d } ≡ deliver (accepted (digits_in A xs n)) out
-      → record { answer = accepted n; buffer = d } ≡ deliver (read_digits A xs count) out
+      → n ≤ 255
+      → record { answer = accepted n; buffer = d } ≡ deliver (accepted (digits_in A xs n)) (replicate 255 0)
+      → accepted (record { digits = d; count = n }) ≡ mapped digits_record (read_digits A xs count)
   unfolding read_digits
-  reading_done count n d out h e done =
+  reading_done count n d h e small done =
       let same : digits_in A xs n ≡ digits_in A xs count = rw e (digits-most count) in
-      rw (bounded-within xs (accepted (digits_in A xs count)) h, ← same) done
+      let l : length (digits_in A xs n) ≡ n = digits-length n ∙ omega arith in
+      let room : length (digits_in A xs n) ≤ length {A = ℕ} (replicate 255 0) = omega (arith, length-replicate {A = ℕ} 255 0) in
+      let b = deliver_buffer (digits_in A xs n) (replicate 255 0) room done in
+      rw (bounded-within xs (accepted (digits_in A xs count)) h, ← same, b, l)

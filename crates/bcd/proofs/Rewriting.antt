@@ -1,5 +1,5 @@
 -- Digits that are read and written again: each half octet but 15 is written as it was read.
-use Prim.Native.Nat.{ℕ, zero, suc, ◌+◌, ◌*◌, ◌/◌, ◌%◌, ◌-◌, ◌≤◌, ◌<◌, min}
+use Prim.Native.Nat.{ℕ, zero, suc, ◌+◌, ◌*◌, ◌/◌, ◌%◌, ◌-◌, ◌≤◌, ◌<◌, min, max}
 use mathlib.Core.Path.{◌≡◌, refl, sym, ap, ap₂, ◌∙◌}
 use mathlib.Core.Logic.{◌⊎◌, inl, inr, ⊎_elim}
 use Rattle.std.specs.Prelude.{unwrap_or}
@@ -58,13 +58,12 @@ pub largest_none : (xs : List ℕ) → Largest xs 0 0
 largest_none xs = inl (lit< tt, known_none xs)
 
 pub largest_octet :
-    (xs : List ℕ) (i h k r : ℕ)
+    (xs : List ℕ) (i h r : ℕ)
     → Largest xs (2 * i) h
     → get_or xs i 0 < 256
-    → k ≡ get_or xs i 0 % 16 + (get_or xs i 0 / 16 - get_or xs i 0 % 16)
-    → r ≡ h + (k - h)
+    → r ≡ max (max h (get_or xs i 0 % 16)) (get_or xs i 0 / 16)
     → Largest xs (2 * (i + 1)) r
-largest_octet xs i h k r s small e f =
+largest_octet xs i h r s small f =
     ⊎_elim
     (λ known. ⊎_elim (λ low. inr (omega arith, record { place = 2 * i; inside = omega arith; fifteen = rw (halves_low xs i) low }))
     (λ low. ⊎_elim
@@ -75,7 +74,7 @@ largest_octet xs i h k r s small e f =
     (λ found. inr (omega arith, record { place = found.1.place; inside = omega (arith, found.1.inside); fifteen = found.1.fifteen }))
     s
 
-pub largest_low : (xs : List ℕ) (i h r : ℕ) → Largest xs (2 * i) h → r ≡ h + (get_or xs i 0 % 16 - h) → Largest xs (2 * i + 1) r
+pub largest_low : (xs : List ℕ) (i h r : ℕ) → Largest xs (2 * i) h → r ≡ max h (get_or xs i 0 % 16) → Largest xs (2 * i + 1) r
 largest_low xs i h r s f =
     ⊎_elim
     (λ known. ⊎_elim (λ low. inr (omega arith, record { place = 2 * i; inside = omega arith; fifteen = rw (halves_low xs i) low }))

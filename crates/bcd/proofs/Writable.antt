@@ -19,20 +19,13 @@ use Rattle.bcd.proofs.Halves.{pack-length}
 abbrev pub nibbles : Alphabet → List ℕ → Outcome (List ℕ)
 nibbles A = each (λ c. written c (A.half c))
 
--- a character by its number
-pub written-digit : (A : Alphabet) (c : ℕ) → nibble A c ≤ 15 → written c (A.half c) ≡ accepted (nibble A c ∷ [])
-written-digit A c h = go (A.half c) h
+-- what a character that is written tells of its number
+written_inv : (A : Alphabet) → Lawful A → (c : ℕ) (hs : List ℕ) → written c (A.half c) ≡ accepted hs → (nibble A c ≤ 15) × (nibble A c ∷ [] ≡ hs)
+written_inv A L c hs e = go (A.half c) refl e
   where
-    go : (o : Option ℕ) → unwrap_or o 16 ≤ 15 → written c o ≡ accepted (unwrap_or o 16 ∷ [])
-    go None h = absurd (omega arith)
-    go (Some k) h = refl
-
-pub written_none : (A : Alphabet) → Lawful A → (c : ℕ) → 15 < nibble A c → written c (A.half c) ≡ refused 9 (c ∷ [])
-written_none A L c h = go (A.half c) refl h
-  where
-    go : (o : Option ℕ) → A.half c ≡ o → 15 < unwrap_or o 16 → written c o ≡ refused 9 (c ∷ [])
-    go None e h = refl
-    go (Some k) e h = absurd (omega (arith, L.small c k e))
+    go : (o : Option ℕ) → A.half c ≡ o → written c o ≡ accepted hs → (unwrap_or o 16 ≤ 15) × (unwrap_or o 16 ∷ [] ≡ hs)
+    go None p e = absurd (never e)
+    go (Some k) p e = (omega (arith, L.small c k p), accepted_inj e)
 
 module _ (A : Alphabet) (cs : List ℕ) where
   -- 11 before all else
@@ -56,17 +49,21 @@ Checked A cs i = nibbles A (take i cs) ≡ accepted (map (nibble A) (take i cs))
 
 module _ (A : Alphabet) (L : Lawful A) (cs : List ℕ) (i : ℕ) (h : i < length cs) (so_far : Checked A cs i) where
   -- one more
-  pub checked_more : nibble A (get_or cs i 0) ≤ 15 → Checked A cs (i + 1)
-  checked_more good =
+  pub checked_more : (v : ℕ) → accepted (v ∷ []) ≡ written (get_or cs i 0) (A.half (get_or cs i 0)) → (v ≤ 15) × (v ≡ nibble A (get_or cs i 0)) × Checked A cs (i + 1)
+  checked_more v good =
+      let (small, same) = written_inv A L (get_or cs i 0) (v ∷ []) (sym good) in
+      let one : nibble A (get_or cs i 0) ≡ v = cc in
       let e : take (i + 1) cs ≡ take i cs ++ (get_or cs i 0 ∷ []) = rw add-one (take-suc cs i 0 h) in
-      each_more (λ c. written c (A.half c)) cs i 0 _ _ h so_far (written-digit A (get_or cs i 0) good)
-      ∙ ap accepted (sym (ap (map (nibble A)) e ∙ map-append (nibble A) (take i cs) (get_or cs i 0 ∷ [])))
+      (
+        omega arith,
+        sym one,
+        each_more (λ c. written c (A.half c)) cs i 0 _ _ h so_far (sym good ∙ ap accepted (sym same))
+            ∙ ap accepted (sym (ap (map (nibble A)) e ∙ map-append (nibble A) (take i cs) (get_or cs i 0 ∷ []))),
+      )
 
   -- the first that is no digit
-  pub checked_bad : length cs ≤ 255 → 15 < nibble A (get_or cs i 0) → write_digits A cs ≡ refused 9 (get_or cs i 0 ∷ [])
-  checked_bad small bad =
-      some_bad A cs 9 (get_or cs i 0 ∷ []) small
-      (each_stopped (λ c. written c (A.half c)) cs i 0 _ 9 _ h so_far (written_none A L (get_or cs i 0) bad))
+  pub checked_bad : (n : ℕ) (vs : List ℕ) → length cs ≤ 255 → refused n vs ≡ written (get_or cs i 0) (A.half (get_or cs i 0)) → write_digits A cs ≡ refused n vs
+  checked_bad n vs small bad = some_bad A cs n vs small (each_stopped (λ c. written c (A.half c)) cs i 0 _ n vs h so_far (sym bad))
 
 -- all of them
 pub checked_all : (A : Alphabet) (cs : List ℕ) (i : ℕ) → Checked A cs i → length cs ≤ i → length cs ≤ 255 → write_digits A cs ≡ accepted (pack (map (nibble A) cs))
@@ -90,13 +87,6 @@ pub record Good (A : Alphabet) (cs : List ℕ) (n : ℕ) : Type 0 where
   pub digits : All (λ (c : ℕ). nibble A c ≤ 15) cs
   pub count : n ≡ (length cs + 1) / 2
   pub octets : write_digits A cs ≡ accepted (pack (map (nibble A) cs))
-
-written_inv : (A : Alphabet) → Lawful A → (c : ℕ) (hs : List ℕ) → written c (A.half c) ≡ accepted hs → (nibble A c ≤ 15) × (nibble A c ∷ [] ≡ hs)
-written_inv A L c hs e = go (A.half c) refl e
-  where
-    go : (o : Option ℕ) → A.half c ≡ o → written c o ≡ accepted hs → (unwrap_or o 16 ≤ 15) × (unwrap_or o 16 ∷ [] ≡ hs)
-    go None p e = absurd (never e)
-    go (Some k) p e = (omega (arith, L.small c k p), accepted_inj e)
 
 nibbles_inv : (A : Alphabet) → Lawful A → (cs hs : List ℕ) → nibbles A cs ≡ accepted hs → All (λ (c : ℕ). nibble A c ≤ 15) cs × (map (nibble A) cs ≡ hs)
 nibbles_inv A L [] hs e = (tt, accepted_inj e)

@@ -122,7 +122,10 @@ pub fn digit_in(bytes: &[u8], i: usize) -> u8
     ensures { result ≡ built_in.char (get_or (halves bytes.now) i 0) }
 {
     let byte = bytes.get(i / 2).copied().unwrap_or(0);
-    nibble_to_char(if i % 2 == 0 { byte % 16 } else { byte / 16 })
+    if i % 2 == 0 {
+        return nibble_to_char(byte % 16);
+    }
+    nibble_to_char(byte / 16)
 }
 
 // Stores the first n digits.

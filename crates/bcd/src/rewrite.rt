@@ -16,7 +16,7 @@ fn unknown(bytes: &[u8], n: usize) -> bool
         ≡ pick result (refused 9 (0x3F ∷ [])) (accepted (pack (take n (halves bytes.now)))) }
 {
     let whole = n / 2;
-    let mut most = 0;
+    let mut most: u8 = 0;
     for &byte in &bytes[..whole] {
         most = most.max(byte % 16).max(byte / 16);
     }

@@ -1,16 +1,18 @@
--- `bcd::digit_in` meets its contract, behind the octets and inside them.
-use Prim.Native.Nat.{◌≤◌}
-use mathlib.Core.Path.{sym, ap, ◌∙◌}
-use native.Mathlib.Omega.{arith}
-use lib.ListN.{length, get_or-eq_default}
+-- `bcd::digit_in` meets its contract.
+use borrow.Author.Rules.{rules}
+use Prim.Native.Nat.{◌/◌, ◌%◌}
+use mathlib.Core.Path.{◌≡◌, ap, ◌∙◌}
+use lib.ListN.{get_or}
 use Rattle.bcd.specs.Digits.{halves, built_in}
-use Rattle.bcd.proofs.Halves.{halves-length}
+use Rattle.bcd.proofs.Reading.{half_even, half_odd}
 use Rattle.bcd.proofs.digit_in.Goals as goal
 
-pub returns-then-bytes-i : goal.returns-then-bytes-i
-returns-then-bytes-i c = let v = c.args.bytes.now in
-    let none : length (halves v) ≤ c.args.i = omega (arith, halves-length v, c.if-bytes-i.true) in
-    c.nibble_to_char.ensures ∙ ap built_in.char (sym (get_or-eq_default (halves v) 0 none))
+pub returns-then-i-eq0 : goal.returns-then-i-eq0
+returns-then-i-eq0 c =
+    let byte : c.unwrap_or-byte.result ≡ get_or c.args.bytes.now (c.args.i / 2) 0 = search rules in
+    c.nibble_to_char.ensures ∙ ap (λ b. built_in.char (b % 16)) byte ∙ ap built_in.char (half_even c.args.bytes.now c.args.i c.if-i-eq0.true)
 
 pub returns : goal.returns
-returns c = c.digit_at.ensures
+returns c =
+    let byte : c.unwrap_or-byte.result ≡ get_or c.args.bytes.now (c.args.i / 2) 0 = search rules in
+    c.nibble_to_char-2.ensures ∙ ap (λ b. built_in.char (b / 16)) byte ∙ ap built_in.char (half_odd c.args.bytes.now c.args.i c.if-i-eq0.false)

@@ -1,5 +1,5 @@
 -- `bcd::pack_digits` meets its contract: the loop has checked the first 2 k digits and stored their k octets.
-use Prim.Native.Nat.{ℕ, ◌*◌, ◌-◌, ◌≤◌}
+use Prim.Native.Nat.{ℕ, ◌*◌}
 use mathlib.Core.List.{List, map}
 use lib.ListN.{take}
 use Rattle.bcd.specs.Digits.{pack, built_in}
@@ -12,7 +12,4 @@ abbrev pub octets : List ℕ → List ℕ
 octets digits = pack (map (nibble built_in) digits)
 
 abbrev pub invariant-loop-k : goal.invariant-loop-k
-invariant-loop-k l = (l.k ≤ l.whole) × Checked built_in l.digits (2 * l.k) × Begun l.initial.packed (take l.k (octets l.digits)) l.packed
-
-abbrev pub decreases-loop-k : goal.decreases-loop-k
-decreases-loop-k l = l.whole - l.k
+invariant-loop-k l = Checked built_in l.digits (2 * l.k) × Begun l.initial.packed (take l.k (octets l.digits)) l.packed

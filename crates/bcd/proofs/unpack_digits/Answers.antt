@@ -1,5 +1,4 @@
 -- `bcd::unpack_digits` meets its contract: the loop has stored the first i digits.
-use borrow.Author.Rules.{rules}
 use Prim.Native.Nat.{ℕ, ◌+◌}
 use mathlib.Core.Path.{sym, ◌∙◌, subst}
 use native.Mathlib.Omega.{arith}
@@ -12,14 +11,12 @@ use Rattle.bcd.proofs.unpack_digits.Goals as goal
 
 pub loop-i-preserved : goal.loop-i-preserved
 loop-i-preserved c = let os = digits_in built_in c.args.bytes.now c.args.n in
-    let v = c.digit_at.ensures ∙ sym (digits_at built_in c.args.bytes.now c.args.n c.loop-i.i (omega arith)) in (
-      search rules,
-      subst (λ (v : ℕ). Begun c.args.out.now (take (c.loop-i.i + 1) os) (set c.loop-i.out c.loop-i.i v)) (sym v)
-          (store_next os c.loop-i.i c.loop-i.invariant.1 (omega (arith, digits-length built_in c.args.bytes.now c.args.n)) (omega arith)),
-    )
+    let v = c.digit_in.ensures ∙ sym (digits_at built_in c.args.bytes.now c.args.n c.loop-i.i (omega arith)) in
+    subst (λ (v : ℕ). Begun c.args.out.now (take (c.loop-i.i + 1) os) (set c.loop-i.out c.loop-i.i v)) (sym v)
+    (store_next os c.loop-i.i c.loop-i.invariant (omega (arith, digits-length built_in c.args.bytes.now c.args.n)) (omega arith))
 
 pub returns : goal.returns
 returns c = let os = digits_in built_in c.args.bytes.now c.args.n in
     let n = digits-length built_in c.args.bytes.now c.args.n in
-    let b : Begun c.args.out.now os c.loop-i.out = rw (take_all c.loop-i.i os (omega arith)) at c.loop-i.invariant.1 in
+    let b : Begun c.args.out.now os c.loop-i.out = rw (take_all c.loop-i.i os (omega arith)) at c.loop-i.invariant in
     delivered c.args.n b (omega arith)

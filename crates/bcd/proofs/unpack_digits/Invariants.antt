@@ -1,12 +1,8 @@
 -- `bcd::unpack_digits` meets its contract: the loop has stored the first i digits.
-use Prim.Native.Nat.{◌≤◌, ◌-◌}
 use lib.ListN.{take}
 use Rattle.bcd.specs.Digits.{built_in, digits_in}
 use Rattle.bcd.proofs.Writing.{Begun}
 use Rattle.bcd.proofs.unpack_digits.Given as goal
 
 abbrev pub invariant-loop-i : goal.invariant-loop-i
-invariant-loop-i l = (l.i ≤ l.n) × Begun l.initial.out (take l.i (digits_in built_in l.bytes l.n)) l.out
-
-abbrev pub decreases-loop-i : goal.decreases-loop-i
-decreases-loop-i l = l.n - l.i
+invariant-loop-i l = Begun l.initial.out (take l.i (digits_in built_in l.bytes l.n)) l.out

@@ -1,5 +1,5 @@
 -- `bcd::rewrite::rewritten_digits_length` meets its contract.
-use borrow.Author.Rules.{rules}
+use native.Mathlib.Omega.{arith}
 use mathlib.Core.Bool.{Bool}
 use mathlib.Core.Path.{sym, ap, ◌∙◌}
 use mathlib.Core.List.{[], ◌∷◌}
@@ -13,12 +13,13 @@ pub returns-then-given-gt1048576 : goal.returns-then-given-gt1048576
 returns-then-given-gt1048576 c = sym (ap (mapped length) (rewrite_beyond c.args.bytes.now c.args.num_digits c.if-given-gt1048576.true))
 
 pub returns-then-unknown : goal.returns-then-unknown
-returns-then-unknown c = sym (ap (mapped length) (rewrite_within c.args.bytes.now c.args.num_digits c.smaller-n.result c.if-given-gt1048576.false c.smaller-n.ensures
+returns-then-unknown c = sym (ap (mapped length) (rewrite_within c.args.bytes.now c.args.num_digits c.min-n.result c.if-given-gt1048576.false (omega (arith, c.from.ensures, c.min-n.ensures))
     ∙ c.unknown.ensures
-    ∙ ap (λ (r : Bool). pick r (refused 9 (0x3F ∷ [])) (accepted (pack (take c.smaller-n.result (halves c.args.bytes.now))))) c.if-unknown.true))
+    ∙ ap (λ (r : Bool). pick r (refused 9 (0x3F ∷ [])) (accepted (pack (take c.min-n.result (halves c.args.bytes.now))))) c.if-unknown.true))
 
 pub returns : goal.returns
-returns c = ap accepted (sym (halves-packed c.args.bytes.now c.smaller-n.result (search rules)))
-    ∙ sym (ap (mapped length) (rewrite_within c.args.bytes.now c.args.num_digits c.smaller-n.result c.if-given-gt1048576.false c.smaller-n.ensures
+returns c = let half = halves-packed c.args.bytes.now c.min-n.result (omega (arith, c.min-n.ensures)) in
+    ap accepted (omega (arith, half, c.div_ceil.ensures))
+    ∙ sym (ap (mapped length) (rewrite_within c.args.bytes.now c.args.num_digits c.min-n.result c.if-given-gt1048576.false (omega (arith, c.from.ensures, c.min-n.ensures))
     ∙ c.unknown.ensures
-    ∙ ap (λ (r : Bool). pick r (refused 9 (0x3F ∷ [])) (accepted (pack (take c.smaller-n.result (halves c.args.bytes.now))))) c.if-unknown.false))
+    ∙ ap (λ (r : Bool). pick r (refused 9 (0x3F ∷ [])) (accepted (pack (take c.min-n.result (halves c.args.bytes.now))))) c.if-unknown.false))

@@ -1,25 +1,35 @@
--- `bcd::rewrite::unknown` meets its contract: the loop has kept the largest half of the first i octets.
-use borrow.Author.Rules.{rules}
-use Prim.Native.Nat.{◌+◌, ◌*◌, ◌/◌}
+-- `bcd::rewrite::unknown` meets its contract: the loop has kept the largest half of the octets before this one.
+use Prim.Native.Nat.{◌+◌, ◌*◌, ◌/◌, ◌≤◌}
 use mathlib.Core.Path.{◌≡◌}
 use native.Mathlib.Omega.{arith}
-use Rattle.bcd.proofs.Rewriting.{largest_none, largest_octet, largest_low, largest_decides}
+use lib.ListN.{length}
+use lib.Seq.{get_or-take, length-take-le}
+use Rattle.bcd.proofs.Rewriting.{Largest, largest_none, largest_octet, largest_low, largest_decides}
+use Rattle.bcd.proofs.rewrite.unknown.Goals.{then-n-eq1, else-n-eq1}
 use Rattle.bcd.proofs.rewrite.unknown.Goals as goal
 
-pub loop-i-init : goal.loop-i-init
-loop-i-init c = (search rules, largest_none c.args.bytes.now)
+pub loop-byte-init : goal.loop-byte-init
+loop-byte-init c = largest_none c.args.bytes.now
 
-pub loop-i-preserved : goal.loop-i-preserved
-loop-i-preserved c = let i = c.loop-i.i in
-    (search rules, largest_octet c.args.bytes.now i c.loop-i.most c.larger.result c.larger-most.result c.loop-i.invariant.1 (omega (arith, c.type_inv.bytes i)) c.larger.ensures c.larger-most.ensures)
-
-pub returns-then-n-eq0 : goal.returns-then-n-eq0
-returns-then-n-eq0 c = let e : 2 * c.loop-i.i ≡ c.args.n = omega arith in
-    largest_decides c.args.bytes.now c.args.n c.requires.n_bound_2 c.loop-i.most c.requires.n_bound (rw (← e) c.loop-i.invariant.1)
+pub loop-byte-preserved : goal.loop-byte-preserved
+loop-byte-preserved c =
+    let i = c.loop-byte.byte-index in
+    let half : c.args.n / 2 ≤ length c.args.bytes.now = omega (arith, c.requires.n_bound) in
+    let octet = get_or-take (c.args.n / 2) c.args.bytes.now i 0 (omega (arith, c.loop-byte-test.true, length-take-le (c.args.n / 2) c.args.bytes.now half)) in
+    largest_octet c.args.bytes.now i c.loop-byte.most c.max-most.result c.loop-byte.invariant (omega (arith, c.type_inv.bytes i)) (omega (arith, octet, c.max.ensures, c.max-most.ensures))
 
 pub returns : goal.returns
-returns c = let i = c.args.n / 2 in
-    let same : c.loop-i.i ≡ i = omega arith in
-    let e : 2 * i + 1 ≡ c.args.n = omega arith in
-    largest_decides c.args.bytes.now c.args.n c.requires.n_bound_2 c.larger-2.result c.requires.n_bound
-    (rw (← e) (largest_low c.args.bytes.now i c.loop-i.most c.larger-2.result (rw same at c.loop-i.invariant.1) c.larger-2.ensures))
+returns c =
+    let i = c.args.n / 2 in
+    let half : i ≤ length c.args.bytes.now = omega (arith, c.requires.n_bound) in
+    let same : c.loop-byte.byte-index ≡ i = omega (arith, length-take-le i c.args.bytes.now half) in
+    let even : Largest c.args.bytes.now (2 * i) c.loop-byte.most = rw same at c.loop-byte.invariant in
+    elim c.if-n-eq1.branch [
+      then-n-eq1 w ↦
+        let e : 2 * i + 1 ≡ c.args.n = omega arith in
+        rw w.most-is (largest_decides c.args.bytes.now c.args.n c.requires.n_bound_2 _ c.requires.n_bound
+        (rw (← e) (largest_low c.args.bytes.now i c.loop-byte.most _ even w.max-most-then-n-eq1.ensures)))
+      | else-n-eq1 w ↦
+        let e : 2 * i ≡ c.args.n = omega arith in
+        rw w.most-is (largest_decides c.args.bytes.now c.args.n c.requires.n_bound_2 _ c.requires.n_bound (rw (← e) even))
+    ]

@@ -1,0 +1,54 @@
+-- The laws of `outcome_of`: a result by its outcome, and the exit of a `?`.
+use Prim.Native.Nat.{ℕ}
+use mathlib.Core.Path.{◌≡◌, refl, sym, ap, ◌∙◌}
+use mathlib.Core.List.{List}
+use lib.ListN.{length}
+use Rattle.std.specs.Prelude.{Result, Ok, Err, IsErrAnd}
+use Rattle.std.proofs.lemmas.Result.{err_from_is_err_and}
+use Rattle.bcd.specs.Outcome.{Outcome, accepted, refused, after, mapped, deliver}
+use Rattle.bcd.specs.Answers.{refusal_of, outcome_of}
+use Rattle.bcd.specs.declared.error.Refusal.{Refusal}
+use Rattle.bcd.proofs.Outcomes.{accepted_inj, never, deliver-passed_on}
+
+-- a result that is known
+pub outcome_ok : {A : Type 0} {r : Result A Refusal} {a : A} → r ≡ Ok a → outcome_of r ≡ accepted a
+outcome_ok e = ap outcome_of e
+
+pub outcome_err : {A : Type 0} {r : Result A Refusal} {e : Refusal} → r ≡ Err e → outcome_of r ≡ refusal_of e
+outcome_err e = ap outcome_of e
+
+-- what an outcome tells of the result
+pub ok_from : {A : Type 0} (r : Result A Refusal) (a : A) → outcome_of r ≡ accepted a → r ≡ Ok a
+ok_from (Ok b) a e = ap Ok (accepted_inj e)
+ok_from (Err x) a e = absurd (never e)
+
+pub err_from : {A : Type 0} (r : Result A Refusal) (n : ℕ) (vs : List ℕ) → outcome_of r ≡ refused n vs → (x : Refusal) × (r ≡ Err x) × (refusal_of {A = A} x ≡ refused n vs)
+err_from (Ok a) n vs e = absurd (never (sym e))
+err_from (Err x) n vs e = (x, refl, e)
+
+-- a refusal is the same, whatever was to come
+pub refusal_as : {A : Type 0} (B : Type 0) (x : Refusal) {n : ℕ} {vs : List ℕ} → refusal_of {A = A} x ≡ refused n vs → refusal_of {A = B} x ≡ refused n vs
+refusal_as B x {n} {vs} e = let a : (refusal_of {A = B} x) ≡ refused n vs = cc in a
+
+-- the outcome that a refusal is an outcome of is refused
+pub refusal_after : {A B : Type 0} (x : Refusal) (o : Outcome A) (f : A → Outcome B) → refusal_of x ≡ o → refusal_of x ≡ after o f
+refusal_after x o f e = ap (λ o. after o f) e
+
+pub refusal_mapped : {A B : Type 0} (x : Refusal) (o : Outcome A) (f : A → B) → refusal_of x ≡ o → refusal_of x ≡ mapped f o
+refusal_mapped x o f e = ap (mapped f) e
+
+-- the exit of a `?`, which returns the callee's refusal
+module _ {A : Type 0} (result : Result A Refusal) (x : Refusal) (came : IsErrAnd result (λ y. y ≡ x)) where
+  pub exit : outcome_of result ≡ refusal_of x
+  exit = let p = err_from_is_err_and result came in ap outcome_of p.1 ∙ ap refusal_of p.2
+
+  pub exit_as : (o : Outcome A) → refusal_of x ≡ o → outcome_of result ≡ o
+  exit_as o e = exit ∙ e
+
+-- the same for a writer, which leaves its buffer as it was
+module _ (result : Result ℕ Refusal) (x : Refusal) (came : IsErrAnd result (λ y. y ≡ x)) where
+  pub exit_passed_on : (o : Outcome (List ℕ)) (out : List ℕ) → refusal_of x ≡ mapped length o → record { answer = outcome_of result; buffer = out } ≡ deliver o out
+  exit_passed_on o out e = rw (exit result x came) (deliver-passed_on o _ _ out e)
+
+  pub exit_delivered : (o : Outcome (List ℕ)) (out : List ℕ) → refusal_of x ≡ o → record { answer = outcome_of result; buffer = out } ≡ deliver o out
+  exit_delivered o out e = exit_passed_on o out (ap (mapped length) e)

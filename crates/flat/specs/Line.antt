@@ -1,6 +1,6 @@
 -- The line that the small program prints (document 01, 'A small program ..').
 use Rattle.std.specs.Prelude.{◌≡◌, ℕ, zero, suc, ◌+◌, ◌-◌, ◌/◌, ◌%◌, ◌&&◌, List, [], ◌∷◌, ◌++◌, length, leb, ltb, eqb}
-use Rattle.bcd.specs.Outcome.{Outcome, accepted, refused, pick, demand, bounded}
+use Rattle.bcd.specs.Outcome.{Outcome, accepted, refused, pick, demand}
 use Rattle.bcd.specs.Digits.{built_in}
 use Rattle.parameter.specs.Table.{over}
 use Rattle.form.specs.Form.{settled}
@@ -38,13 +38,10 @@ words = words_from 0
 abbrev pub between : (head : List ℕ) → ℕ → (tail : List ℕ) → List ℕ
 between head n tail = head ++ decimal n ++ tail
 
--- `(form `, the number of octets, ` (`, the octets as words, `))` and a line feed. More than 1,048,576 octets are refused as 12.
+-- `(form `, the number of octets, ` (`, the octets as words, `))` and a line feed.
 unfoldable pub form_text : List ℕ → List ℕ
 form_text f =
     between (0x28 ∷ 0x66 ∷ 0x6F ∷ 0x72 ∷ 0x6D ∷ 0x20 ∷ []) (length f) (0x20 ∷ 0x28 ∷ []) ++ words f ++ (0x29 ∷ 0x29 ∷ 0x0A ∷ [])
-
-unfoldable pub form_line : List ℕ → Outcome (List ℕ)
-form_line f = bounded f (accepted (form_text f))
 
 -- `(refused `, the number, `)` and a line feed.
 unfoldable pub refused_line : (number : ℕ) → List ℕ

@@ -5,12 +5,4 @@
 pub mod account;
 pub mod line;
 pub mod list;
-
-ghost use Rattle.std.specs.Prelude.{◌≡◌, ◌+◌, ◌*◌};
-
-// A number of two numbers of 16 bits, the high one first.
-fn be32(high: u16, low: u16) -> usize
-    ensures { result ≡ high * 65536 + low }
-{
-    (high as usize) * 65536 + (low as usize)
-}
+mod writer;

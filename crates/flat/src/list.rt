@@ -1,162 +1,136 @@
 // A message written from a flat list: for each parameter its tag (2 octets), the length of its value (4 octets) and the
 // value. The list holds records and their values, and has no bound of its own.
-ghost use Rattle.std.specs.Prelude.{◌≡◌, ℕ, ◌+◌, ◌≤◌, List};
-ghost use lib.ListN.{length};
+ghost use Rattle.std.specs.Prelude.{◌≡◌, List, ℕ, length};
+ghost use Rattle.std.specs.Iterator.{at_most};
 ghost use Rattle.bcd.specs.Outcome.{accepted, after, mapped, each, fit64, delivered, deliver};
-ghost use Rattle.bcd.specs.Answers.{counted_of};
-ghost use Rattle.parameter.specs.Parameter.{padded_length, most_value, encode_param, wire_length};
-ghost use Rattle.parameter.specs.Walk.{valued};
-ghost use Rattle.parameter.specs.Answers.{step_of};
+ghost use Rattle.bcd.specs.Answers.{outcome_of};
+ghost use Rattle.parameter.specs.Parameter.{encode_param, wire_length};
 ghost use Rattle.message.specs.Message.{message, write_message};
 ghost use Rattle.flat.specs.Flat.{flat_step, flat_list, encode_flat};
+ghost use Rattle.flat.specs.Steps.Entries.{entry_of, Gives, Left};
 
-use crate::be32;
-use bcd::error::{Counted, Refusal};
+use bcd::error::Refusal;
 use message::header::CommonHeader;
-use message::types::{MessageType, TypeRead};
-use parameter::{Cursor, Place, Step, be16};
+use message::types::MessageType;
+use parameter::{Place, wire_length};
 
-// The record at a position of a flat list, with the position moved on. 15.
-fn step(list: &[u8], at: usize) -> Step
-    ensures { step_of result ≡ flat_step list.now at }
+// The record at a position of a flat list; none at the end of the list. 15.
+fn step(list: &[u8], at: usize) -> Result<Option<Place>, Refusal>
+    ensures { entry_of result ≡ flat_step list.now at }
 {
-    let n = list.len();
-    if n <= at {
-        return Step::End;
+    let left = list.len().saturating_sub(at);
+    if left == 0 {
+        return Ok(None);
     }
-    let left = n - at;
     if left < 6 {
-        return Step::Refused(Refusal::OutsideSlice);
+        return Err(Refusal::OutsideSlice);
     }
-    let tag = be16(list[at], list[at + 1]);
-    let high = be16(list[at + 2], list[at + 3]);
-    let low = be16(list[at + 4], list[at + 5]);
-    let length = be32(high, low);
+    let tag = u16::from_be_bytes([list[at], list[at + 1]]);
+    let length =
+        u32::from_be_bytes([list[at + 2], list[at + 3], list[at + 4], list[at + 5]]) as usize;
     if left - 6 < length {
-        return Step::Refused(Refusal::OutsideSlice);
+        return Err(Refusal::OutsideSlice);
     }
-    Step::Parameter(
-        Place {
-            tag,
-            start: at + 6,
-            length,
-        },
-        Cursor {
-            at: at + 6 + length,
-        },
-    )
+    Ok(Some(Place {
+        tag,
+        start: at + 6,
+        length,
+    }))
+}
+
+// The records of a flat list, from a position on; nothing after a refusal.
+#[derive(Clone, Copy)]
+struct FlatList<'a> {
+    list: &'a [u8],
+    at: usize,
+}
+
+impl<'a> FlatList<'a> {
+    // All of them.
+    fn new(list: &'a [u8]) -> FlatList<'a>
+        ensures list { result.list.now ≡ list.now }
+        ensures at { result.at ≡ 0 }
+    {
+        FlatList { list, at: 0 }
+    }
+}
+
+impl<'a> Iterator for FlatList<'a> {
+    type Item = Result<Place, Refusal>;
+
+    ghost next_gives = { λ s r t. Gives s.list.now s.at r t.list.now t.at };
+
+    ghost remaining = { λ s. at_most (Left s.list.now s.at) };
+
+    fn next(&mut self) -> Option<Result<Place, Refusal>> {
+        match step(self.list, self.at) {
+            Ok(None) => None,
+            Ok(Some(place)) => {
+                self.at = place.start + place.length;
+                Some(Ok(place))
+            }
+            Err(refusal) => {
+                self.list = &[];
+                Some(Err(refusal))
+            }
+        }
+    }
 }
 
 // The sum with one parameter more, or the refusal that came first.
-fn add(sum: Counted, tag: u16, length: usize) -> Counted
-    ensures { counted_of result ≡ after (counted_of sum) (λ n. mapped (λ m. fit64 (n + m)) (wire_length tag length)) }
+fn add(sum: Result<usize, Refusal>, place: Place) -> Result<usize, Refusal>
+    ensures { outcome_of result
+        ≡ after (outcome_of sum) (λ n. mapped (λ m. fit64 (n + m)) (wire_length place.tag place.length)) }
 {
-    match sum {
-        Counted::Refused(r) => Counted::Refused(r),
-        Counted::Count(total) => match parameter::wire_length(tag, length) {
-            Counted::Refused(refusal) => Counted::Refused(refusal),
-            Counted::Count(n) => Counted::Count(parameter::saturating_add(total, n)),
-        },
-    }
+    Ok(sum?.saturating_add(wire_length(place.tag, place.length)?))
 }
 
 // What the parameters of a flat list take on the wire together. 15, then 10 in order.
-fn list_length(list: &[u8]) -> Counted
-    ensures { counted_of result ≡ mapped (λ (os : List ℕ). fit64 (length os)) (after (flat_list list.now) (each encode_param)) }
+fn list_length(list: &[u8]) -> Result<usize, Refusal>
+    ensures { outcome_of result ≡ mapped (λ (os : List ℕ). fit64 (length os)) (after (flat_list list.now) (each encode_param)) }
 {
-    let mut c = Cursor { at: 0 };
-    let mut sum = Counted::Count(0);
-    let mut n: usize = 0;
-    while n < list.len() {
-        match step(list, c.at) {
-            Step::Parameter(place, next) => {
-                sum = add(sum, place.tag, place.length);
-                c = next;
-                n = n + 1;
-            }
-            Step::End => {
-                return sum;
-            }
-            Step::Refused(r) => {
-                return Counted::Refused(r);
-            }
-        }
+    let mut sum = Ok(0);
+    for place in FlatList::new(list) {
+        sum = add(sum, place?);
     }
     sum
 }
 
-// Writes the parameter of a record, for which there is room, and answers what it takes.
-fn put(list: &[u8], place: Place, out: &mut [u8]) -> usize
-    requires length_bound { place.start + place.length ≤ lib.ListN.length list.now }
-    requires length_le_most_value { place.length ≤ most_value }
-    requires length_bound_2 { padded_length place.length ≤ lib.ListN.length out.old }
-    ensures { delivered (accepted result) out.new
-        ≡ deliver (encode_param (valued list.now place)) out.old }
+// Writes the parameters of a flat list, which take the whole slice.
+fn write_list(list: &[u8], out: &mut [u8]) -> Result<(), Refusal>
+    requires { accepted (length out.old) ≡ mapped length (after (flat_list list.now) (each encode_param)) }
+    ensures written { accepted out.new ≡ after (flat_list list.now) (each encode_param) }
 {
-    let start = place.start;
-    let end = start + place.length;
-    match parameter::encode(place.tag, &list[start..end], out) {
-        Counted::Count(n) => n,
-        Counted::Refused(_) => 0,
+    let mut at = 0;
+    for place in FlatList::new(list) {
+        let place = place?;
+        at += parameter::encode(place.tag, place.value(list), &mut out[at..])?;
     }
-}
-
-// Writes the parameters of a flat list, which take `total` octets.
-fn write_list(list: &[u8], total: usize, out: &mut [u8])
-    requires total_value { accepted total ≡ mapped length (after (flat_list list.now) (each encode_param)) }
-    requires total_in_bounds { total ≤ length out.old }
-    ensures { delivered (accepted total) out.new
-        ≡ deliver (after (flat_list list.now) (each encode_param)) out.old }
-{
-    let mut c = Cursor { at: 0 };
-    let mut at: usize = 0;
-    let mut n: usize = 0;
-    while n < list.len() {
-        match step(list, c.at) {
-            Step::Parameter(place, next) => {
-                at = at + put(list, place, &mut out[at..]);
-                c = next;
-                n = n + 1;
-            }
-            Step::End => {
-                return;
-            }
-            Step::Refused(_) => {
-                return;
-            }
-        }
-    }
+    Ok(())
 }
 
 // Writes the message of a type and a flat list. 15, 10 in order, 12, 14.
-fn encode_typed(message_type: MessageType, list: &[u8], out: &mut [u8]) -> Counted
-    ensures { delivered (counted_of result) out.new
+fn encode_typed(message_type: MessageType, list: &[u8], out: &mut [u8]) -> Result<usize, Refusal>
+    ensures { delivered (outcome_of result) out.new
         ≡ deliver (after (flat_list list.now) (λ ps. write_message (message message_type ps))) out.old }
 {
-    match list_length(list) {
-        Counted::Refused(r) => Counted::Refused(r),
-        Counted::Count(run) => {
-            let total = parameter::saturating_add(8, run);
-            if 1048576 < total {
-                return Counted::Refused(Refusal::TooManyOctets(total));
-            }
-            if out.len() < total {
-                return Counted::Refused(Refusal::OutputTooSmall(total));
-            }
-            CommonHeader::new(message_type, total as u32).encode(out);
-            write_list(list, run, &mut out[8..]);
-            Counted::Count(total)
-        }
+    let total = list_length(list)?.saturating_add(CommonHeader::SIZE);
+    if 1048576 < total {
+        return Err(Refusal::TooManyOctets(total));
     }
+    if out.len() < total {
+        return Err(Refusal::OutputTooSmall(total));
+    }
+    CommonHeader::new(message_type, total as u32).encode(out)?;
+    write_list(list, &mut out[CommonHeader::SIZE..total])?;
+    Ok(total)
 }
 
 // Writes the message of a class, a type and a flat list. 4, 15, 10 in order, 12 (the message's), 14.
-pub fn encode(class: u8, msg_type: u8, list: &[u8], out: &mut [u8]) -> Counted
-    ensures { delivered (counted_of result) out.new
+pub fn encode(class: u8, msg_type: u8, list: &[u8], out: &mut [u8]) -> Result<usize, Refusal>
+    ensures { delivered (outcome_of result) out.new
         ≡ deliver (encode_flat class msg_type list.now) out.old }
 {
-    match MessageType::from_class_type(class, msg_type) {
-        TypeRead::Refused(r) => Counted::Refused(r),
-        TypeRead::Type(message_type) => encode_typed(message_type, list, out),
-    }
+    let message_type = MessageType::from_class_type(class, msg_type)?;
+    encode_typed(message_type, list, out)
 }

@@ -8,12 +8,3 @@ pub mod Values
 pub mod Back
 pub mod Exactly
 pub mod Worked
-pub mod Copying
-pub mod Writing
-pub mod PartyTests
-pub mod PartyReading
-pub mod PartyExactly
-pub mod PartyWriting
-pub mod ValueNumbers
-pub mod ValueReading
-pub mod ValueWriting

@@ -1,93 +1,66 @@
 // What an address of SUA that converts and its party address of SCCP have in common: a few numbers, and digits, which stay half
 // octets in the octets read.
-ghost use Rattle.std.specs.Prelude.{◌≡◌, ◌++◌, ◌+◌, ◌*◌, ◌/◌, ◌≤◌, length, take, drop};
-ghost use Rattle.bcd.specs.Outcome.{pick, most};
-ghost use Rattle.bcd.specs.Digits.{halves, pack, built_in, digits_in};
+ghost use Rattle.std.specs.Prelude.{◌≡◌, true, ◌+◌, ◌*◌, ◌/◌, ◌≤◌, length, unwrap_or};
+ghost use Rattle.bcd.specs.Digits.{built_in, digits_in};
 ghost use Rattle.sccp.specs.Sccp.{known};
-ghost use Rattle.sccp.specs.Steps.{no_numbers};
 
-use bcd::error::{Counted, Refusal};
+use bcd::rewrite::rewritten_digits_length;
 
-// A title of indicator 4: its digits are the first `count` half octets from `start` on.
+// So many digits, the half octets of these octets from the first on. None is `?`.
 #[derive(Clone, Copy)]
-pub(crate) struct Title {
+pub(crate) struct Digits<'a> {
+    pub(crate) octets: &'a [u8],
+    pub(crate) count: u8,
+    ghost whole: { length octets.now ≡ (count + 1) / 2 },
+    ghost known: { known (digits_in built_in octets.now count) ≡ true },
+}
+
+// A title of indicator 4.
+#[derive(Clone, Copy)]
+pub(crate) struct Title<'a> {
     pub(crate) translation_type: u8,
     pub(crate) numbering_plan: u8,
     pub(crate) nature_of_address: u8,
-    pub(crate) start: usize,
-    pub(crate) count: usize,
+    pub(crate) digits: Digits<'a>,
+    ghost plan: { numbering_plan ≤ 15 },
+    ghost nature: { nature_of_address ≤ 127 },
 }
 
-// An address, routed on its title or on SSN and point code. Its parts are there where their flags say so, and zeros elsewhere.
+// An address that converts, routed on its title or on SSN and point code.
 #[derive(Clone, Copy)]
-pub(crate) struct Common {
+pub(crate) struct Common<'a> {
     pub(crate) on_title: bool,
-    pub(crate) has_point_code: bool,
-    pub(crate) point_code: u16,
-    pub(crate) has_ssn: bool,
-    pub(crate) ssn: u8,
-    pub(crate) has_title: bool,
-    pub(crate) title: Title,
+    pub(crate) point_code: Option<u16>,
+    pub(crate) ssn: Option<u8>,
+    pub(crate) title: Option<Title<'a>>,
+    ghost code: { unwrap_or point_code 0 ≤ 16383 },
 }
 
-// An address that converts, or why there is none.
-#[derive(Clone, Copy)]
-pub(crate) enum Converted {
-    Address(Common),
-    Refused(Refusal),
-}
+impl<'a> Digits<'a> {
+    ghost use Rattle.std.specs.Prelude.{option_map, Some, None};
+    ghost use Rattle.bcd.specs.Outcome.{accepted, pick, delivered, deliver};
+    ghost use Rattle.sccp.specs.Steps.{digits_from, packed};
 
-impl Title {
-    // The numbers of a title that is absent.
-    pub(crate) fn none() -> Title
-        ensures { result ≡ no_numbers }
+    // So many digits that octets begin with, unless one is `?`.
+    pub(crate) fn new(octets: &'a [u8], count: u8) -> Option<Digits<'a>>
+        requires { count ≤ 2 * length octets.now }
+        ensures { let digits = digits_in built_in octets.entry.now count in option_map digits_from result ≡ pick (known digits) (Some digits) None }
     {
-        Title {
-            translation_type: 0,
-            numbering_plan: 0,
-            nature_of_address: 0,
-            start: 0,
-            count: 0,
+        let octets = &octets[..usize::from(count).div_ceil(2)];
+        rewritten_digits_length(octets, count).ok()?;
+        Some(Digits { octets, count })
+    }
+
+    // Stores the half octets at the front of a slice, behind an odd number a half octet of 0, and tells how many octets they take.
+    pub(crate) fn put(self, out: &mut [u8]) -> usize
+        requires { length self.octets.now ≤ length out.old }
+        ensures { delivered (accepted result) out.new ≡ deliver (accepted (packed self.entry)) out.old }
+    {
+        let n = self.octets.len();
+        out[..n].copy_from_slice(self.octets);
+        if self.count % 2 == 1 {
+            out[n - 1] = self.octets[n - 1] % 16;
         }
-    }
-}
-
-// Where the next part starts.
-pub(crate) fn behind(place: usize, there: bool, size: usize) -> usize
-    requires { place + size ≤ most }
-    ensures { result ≡ place + pick there size 0 }
-{
-    if there { place + size } else { place }
-}
-
-// Bits that are set, or 0.
-pub(crate) fn flag(set: bool, bits: u8) -> u8
-    ensures { result ≡ pick set bits 0 }
-{
-    if set { bits } else { 0 }
-}
-
-// Whether no digit is `?`, of as many as the count says, or as there are.
-pub(crate) fn known(octets: &[u8], count: u8) -> bool
-    requires { length octets.now ≤ most }
-    ensures { result ≡ known (digits_in built_in octets.now count) }
-{
-    match bcd::rewrite::rewritten_digits_length(octets, count) {
-        Counted::Count(_) => true,
-        Counted::Refused(_) => false,
-    }
-}
-
-// Stores the first `count` half octets at the front of a slice; behind an odd number stands a half octet of 0.
-pub(crate) fn copy_digits(octets: &[u8], count: usize, out: &mut [u8])
-    requires count_bound { count ≤ 2 * length octets.now }
-    requires octets_len_bound { length octets.now ≤ most }
-    requires count_in_bounds { (count + 1) / 2 ≤ length out.old }
-    ensures { out.new ≡ pack (take count (halves octets.now)) ++ drop ((count + 1) / 2) out.old }
-{
-    let whole = count / 2;
-    octets::copy(&octets[..whole], out);
-    if count % 2 == 1 {
-        out[whole] = octets[whole] % 16;
+        n
     }
 }

@@ -8,30 +8,23 @@ pub mod value;
 
 ghost use Rattle.std.specs.Prelude.{◌≡◌};
 ghost use Rattle.bcd.specs.Outcome.{delivered, deliver};
-ghost use Rattle.bcd.specs.Answers.{counted_of};
+ghost use Rattle.bcd.specs.Answers.{outcome_of};
 ghost use Rattle.sccp.specs.Sccp.{to_sccp, from_sccp};
 
-use bcd::error::Counted;
-use common::Converted;
+use bcd::error::Refusal;
 
 // Writes the party address of an address value. Its reading's refusals, then 17, then 14.
-pub fn to_sccp(value: &[u8], out: &mut [u8]) -> Counted
-    ensures { delivered (counted_of result) out.new
+pub fn to_sccp(value: &[u8], out: &mut [u8]) -> Result<usize, Refusal>
+    ensures { delivered (outcome_of result) out.new
         ≡ deliver (to_sccp value.now) out.old }
 {
-    match value::read(value) {
-        Converted::Refused(r) => Counted::Refused(r),
-        Converted::Address(address) => party::write(address, value, out),
-    }
+    party::write(value::read(value)?, out)
 }
 
 // Writes the address value of a party address. 12, 18, 14.
-pub fn from_sccp(octets: &[u8], out: &mut [u8]) -> Counted
-    ensures { delivered (counted_of result) out.new
+pub fn from_sccp(octets: &[u8], out: &mut [u8]) -> Result<usize, Refusal>
+    ensures { delivered (outcome_of result) out.new
         ≡ deliver (from_sccp octets.now) out.old }
 {
-    match party::read(octets) {
-        Converted::Refused(r) => Counted::Refused(r),
-        Converted::Address(address) => value::write(address, octets, out),
-    }
+    value::write(party::read(octets)?, out)
 }

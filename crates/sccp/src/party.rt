@@ -1,226 +1,198 @@
 // Party addresses of SCCP, read and written (ITU-T Q.713, 3.4).
-ghost use Rattle.std.specs.Prelude.{◌≡◌, true, ◌+◌, ◌/◌, ◌≤◌, length, get_or};
-ghost use Rattle.bcd.specs.Outcome.{accepted, pick, mapped, delivered, deliver, most};
-ghost use Rattle.bcd.specs.Answers.{counted_of};
-ghost use Rattle.parameter.specs.Table.{over};
-ghost use Rattle.address.specs.Records.{flagged};
-ghost use Rattle.sccp.specs.Sccp.{digits_of, title_in, sccp_in, code_octets, sub_octets, title_octets, sccp_octets, from_sccp};
-ghost use Rattle.sccp.specs.Steps.{title_from, address_from, SoundTitle, Sound, ReadAs, converted};
-ghost use Rattle.sccp.specs.Steps.{code_at, HasTitle, title_numbers, no_numbers, party_numbers};
+ghost use Rattle.std.specs.Prelude.{◌≡◌, ◌≤◌, length, Some, option_map, get_or, leb, eqb, ◌&&◌};
+ghost use Rattle.bcd.specs.Outcome.{accepted, after, demand, mapped, bounded, delivered, deliver};
+ghost use Rattle.bcd.specs.Answers.{outcome_of};
+ghost use Rattle.bcd.specs.Digits.{halves};
+ghost use Rattle.sccp.specs.Sccp.{code_in, sub_in, digit_count, digits_of, title_in, title_by, sccp_in};
+ghost use Rattle.sccp.specs.Sccp.{code_octets, sub_octets, title_octets, indicator, sccp_octets};
+ghost use Rattle.sccp.specs.Steps.{digits_from, title_from, address_from, behind, filled, title_length, party_length};
 
-use crate::common::{Common, Converted, Title, behind, copy_digits, flag, known};
-use bcd::error::{Counted, Refusal};
-use parameter::be16;
+use crate::common::{Common, Digits, Title};
+use bcd::error::Refusal;
 
-// Whether the octets are digits that convert, by their encoding scheme (Q.713, 3.4.2.3.4). 255 digits take 128 octets.
-fn digits_convert(scheme: u8, octets: &[u8]) -> bool
-    ensures { result ≡ converted (digits_of scheme octets.now) }
+// The point code, if it is there, and the octets behind it; its low octet comes first (Q.713, 3.4.2.1). 18.
+fn code_in(there: bool, octets: &[u8]) -> Result<(Option<u16>, &[u8]), Refusal>
+    ensures { mapped behind (outcome_of result) ≡ code_in there octets.now }
+{
+    if !there {
+        return Ok((None, octets));
+    }
+    let [low, high, rest @ ..] = octets else {
+        return Err(Refusal::InvalidSccpAddress);
+    };
+    if 63 < *high {
+        return Err(Refusal::InvalidSccpAddress);
+    }
+    Ok((Some(u16::from_le_bytes([*low, *high])), rest))
+}
+
+// The SSN, if it is there, and the octets behind it (Q.713, 3.4.2.2). 18.
+fn ssn_in(there: bool, octets: &[u8]) -> Result<(Option<u8>, &[u8]), Refusal>
+    ensures { mapped behind (outcome_of result) ≡ sub_in there octets.now }
+{
+    if !there {
+        return Ok((None, octets));
+    }
+    let [ssn, rest @ ..] = octets else {
+        return Err(Refusal::InvalidSccpAddress);
+    };
+    Ok((Some(*ssn), rest))
+}
+
+// How many digits stand in octets, by their encoding scheme; 255 take 128 octets. The half behind an odd number is 0 (Q.713,
+// 3.4.2.3.1 and 3.4.2.3.4). 18.
+fn digit_count(scheme: u8, octets: &[u8]) -> Result<u8, Refusal>
+    ensures { outcome_of result ≡ after (digit_count scheme (length octets.now)) (filled octets.now) }
 {
     let n = octets.len();
-    if scheme == 1 {
-        if n < 1 {
-            return false;
-        }
-        if 128 < n {
-            return false;
-        }
-        if 15 < octets[n - 1] {
-            return false;
-        }
-        return known(octets, (2 * n - 1) as u8);
+    if scheme == 1 && 1 <= n && n <= 128 && octets[n - 1] <= 15 {
+        return Ok((2 * n - 1) as u8);
     }
-    if scheme == 2 {
-        if 127 < n {
-            return false;
-        }
-        return known(octets, (2 * n) as u8);
+    if scheme == 2 && n <= 127 {
+        return Ok((2 * n) as u8);
     }
-    false
+    Err(Refusal::InvalidSccpAddress)
 }
 
-// Whether the octets are a title of indicator 4 that converts.
-fn title_converts(octets: &[u8]) -> bool
-    ensures { result ≡ converted (title_in octets.now) }
+// The digits, by their encoding scheme. 18.
+fn digits_in(scheme: u8, octets: &[u8]) -> Result<Digits<'_>, Refusal>
+    ensures { mapped digits_from (outcome_of result) ≡ digits_of scheme octets.now }
 {
-    if octets.len() < 3 {
-        return false;
-    }
-    if 127 < octets[2] {
-        return false;
-    }
-    digits_convert(octets[1] % 16, &octets[3..])
+    let count = digit_count(scheme, octets)?;
+    Digits::new(octets, count).ok_or(Refusal::InvalidSccpAddress)
 }
 
-// The point code, 0 if it is absent; its low octet comes first (Q.713, 3.4.2.1).
-fn code_in(there: bool, octets: &[u8]) -> u16
-    requires { 1 + pick there 2 0 ≤ length octets.now }
-    ensures { result ≡ pick there (code_at octets.now) 0 }
+// A title of indicator 4. 18.
+fn title_in(octets: &[u8]) -> Result<Title<'_>, Refusal>
+    ensures { mapped (λ t. Some (title_from t)) (outcome_of result) ≡ title_in octets.now }
 {
-    if there {
-        return be16(octets[2], octets[1]);
+    let [translation_type, plan, nature_of_address, rest @ ..] = octets else {
+        return Err(Refusal::InvalidSccpAddress);
+    };
+    if 127 < *nature_of_address {
+        return Err(Refusal::InvalidSccpAddress);
     }
-    0
+    Ok(Title {
+        translation_type: *translation_type,
+        numbering_plan: *plan / 16,
+        nature_of_address: *nature_of_address,
+        digits: digits_in(*plan % 16, rest)?,
+    })
 }
 
-// Whether the octets are a party address that converts: the address indicator (Q.713, 3.4.1), and the parts behind it.
-fn converts(octets: &[u8]) -> bool
-    requires { length octets.now ≤ most }
-    ensures { result ≡ converted (sccp_in octets.now) }
+// The title by its indicator: none, or 4 (Q.713, 3.4.2.3). 18.
+fn title_by(indicator: u8, octets: &[u8]) -> Result<Option<Title<'_>>, Refusal>
+    ensures { mapped (option_map title_from) (outcome_of result) ≡ title_by indicator octets.now }
 {
-    let n = octets.len();
-    if n < 1 {
-        return false;
+    match indicator {
+        0 if octets.is_empty() => Ok(None),
+        4 => Ok(Some(title_in(octets)?)),
+        _ => Err(Refusal::InvalidSccpAddress),
     }
-    let first = octets[0];
-    if 127 < first {
-        return false;
-    }
-    let coded = first % 2 == 1;
-    let place = behind(behind(1, coded, 2), first / 2 % 2 == 1, 1);
-    if n < place {
-        return false;
-    }
-    if 16383 < code_in(coded, octets) {
-        return false;
-    }
-    let title = first / 4 % 16;
-    if title == 0 {
-        return n == place;
-    }
-    if title == 4 {
-        return title_converts(&octets[place..]);
-    }
-    false
 }
 
-// The SSN, 0 if it is absent (Q.713, 3.4.2.2).
-fn ssn_in(there: bool, octets: &[u8], place: usize) -> u8
-    requires { place + pick there 1 0 ≤ length octets.now }
-    ensures { result ≡ pick there (get_or octets.now place 0) 0 }
+// A party address: the address indicator (Q.713, 3.4.1), and the parts behind it. 18.
+fn address_in(octets: &[u8]) -> Result<Common<'_>, Refusal>
+    ensures { mapped address_from (outcome_of result) ≡ sccp_in octets.now }
 {
-    if there {
-        return octets[place];
+    let [indicator, rest @ ..] = octets else {
+        return Err(Refusal::InvalidSccpAddress);
+    };
+    if 127 < *indicator {
+        return Err(Refusal::InvalidSccpAddress);
     }
-    0
-}
-
-// The numbers of the title, zeros if it is absent. The encoding scheme is odd for an odd number of digits.
-fn title_in(there: bool, octets: &[u8], place: usize) -> Title
-    requires octets_len_bound { length octets.now ≤ most }
-    requires place_le_most { place ≤ most }
-    requires has_title { there ≡ true → HasTitle octets.now place }
-    ensures { result ≡ pick there (title_numbers octets.now place) no_numbers }
-{
-    if there {
-        let plan = octets[place + 1];
-        let halves = 2 * (octets.len() - (place + 3));
-        return Title {
-            translation_type: octets[place],
-            numbering_plan: plan / 16,
-            nature_of_address: octets[place + 2],
-            start: place + 3,
-            count: halves - (plan % 2) as usize,
-        };
-    }
-    Title::none()
-}
-
-// The numbers of a party address that converts.
-fn numbers(octets: &[u8]) -> Common
-    requires octets_len_bound { length octets.now ≤ most }
-    requires octets_value { converted (sccp_in octets.now) ≡ true }
-    ensures { result ≡ party_numbers octets.now }
-{
-    let first = octets[0];
-    let has_point_code = first % 2 == 1;
-    let has_ssn = first / 2 % 2 == 1;
-    let has_title = first / 16 % 2 == 1;
-    let ssn_place = behind(1, has_point_code, 2);
-    let title_place = behind(ssn_place, has_ssn, 1);
-    Common {
-        on_title: first / 64 % 2 == 0,
-        has_point_code,
-        point_code: code_in(has_point_code, octets),
-        has_ssn,
-        ssn: ssn_in(has_ssn, octets, ssn_place),
-        has_title,
-        title: title_in(has_title, octets, title_place),
-    }
+    let (point_code, rest) = code_in(*indicator % 2 == 1, rest)?;
+    let (ssn, rest) = ssn_in(*indicator / 2 % 2 == 1, rest)?;
+    let title = title_by(*indicator / 4 % 16, rest)?;
+    Ok(Common {
+        on_title: *indicator / 64 % 2 == 0,
+        point_code,
+        ssn,
+        title,
+    })
 }
 
 // Reads a party address. 12, 18.
-pub(crate) fn read(octets: &[u8]) -> Converted
-    ensures { ReadAs (sccp_in octets.now) (from_sccp octets.now) octets.now result }
+pub(crate) fn read(octets: &[u8]) -> Result<Common<'_>, Refusal>
+    ensures { mapped address_from (outcome_of result) ≡ bounded octets.now (sccp_in octets.now) }
 {
     let n = octets.len();
     if 1048576 < n {
-        return Converted::Refused(Refusal::TooManyOctets(n));
+        return Err(Refusal::TooManyOctets(n));
     }
-    if !converts(octets) {
-        return Converted::Refused(Refusal::InvalidSccpAddress);
-    }
-    Converted::Address(numbers(octets))
+    address_in(octets)
 }
 
-// Stores the point code, if it is there, the low octet first.
-fn put_code(there: bool, code: u16, out: &mut [u8])
-    requires { pick there 2 0 ≤ length out.old }
-    ensures { out.new ≡ over (code_octets (flagged there code)) out.old }
+// Stores the point code, if it is there, the low octet first, and tells how many octets it takes.
+fn put_code(code: Option<u16>, out: &mut [u8]) -> usize
+    requires { length (code_octets code) ≤ length out.old }
+    ensures { delivered (accepted result) out.new ≡ deliver (accepted (code_octets code)) out.old }
 {
-    if there {
-        out[0] = (code % 256) as u8;
-        out[1] = (code / 256) as u8;
-    }
+    let Some(code) = code else {
+        return 0;
+    };
+    out[..2].copy_from_slice(&code.to_le_bytes());
+    2
 }
 
-// Stores the SSN, if it is there.
-fn put_ssn(there: bool, ssn: u8, out: &mut [u8])
-    requires { pick there 1 0 ≤ length out.old }
-    ensures { out.new ≡ over (sub_octets (flagged there ssn)) out.old }
+// Stores the SSN, if it is there, and tells how many octets it takes.
+fn put_ssn(ssn: Option<u8>, out: &mut [u8]) -> usize
+    requires { length (sub_octets ssn) ≤ length out.old }
+    ensures { delivered (accepted result) out.new ≡ deliver (accepted (sub_octets ssn)) out.old }
 {
-    if there {
-        out[0] = ssn;
-    }
+    let Some(ssn) = ssn else {
+        return 0;
+    };
+    out[0] = ssn;
+    1
 }
 
-// Stores the title, if it is there.
-fn put_title(there: bool, title: Title, octets: &[u8], out: &mut [u8])
-    requires sound_title { SoundTitle octets.now title }
-    requires octets_len_bound { length octets.now ≤ most }
-    requires count_in_bounds { pick there (3 + (title.count + 1) / 2) 0 ≤ length out.old }
-    ensures { accepted out.new
-        ≡ mapped (λ os. over os out.old) (title_octets (flagged there (title_from octets.now title))) }
+// Stores the title, if it is there, and tells how many octets it takes. The encoding scheme is odd for an odd number of digits.
+fn put_title(title: Option<Title<'_>>, out: &mut [u8]) -> usize
+    requires { title_length title ≤ length out.old }
+    ensures { delivered (accepted result) out.new ≡ deliver (title_octets (option_map title_from title.entry)) out.old }
 {
-    if there {
-        let count = title.count;
-        let scheme = 2 - (count % 2) as u8;
-        out[0] = title.translation_type;
-        out[1] = title.numbering_plan * 16 + scheme;
-        out[2] = title.nature_of_address;
-        let start = title.start;
-        copy_digits(&octets[start..], count, &mut out[3..]);
-    }
+    let Some(title) = title else {
+        return 0;
+    };
+    let scheme = 2 - title.digits.count % 2;
+    out[0] = title.translation_type;
+    out[1] = title.numbering_plan * 16 + scheme;
+    out[2] = title.nature_of_address;
+    3 + title.digits.put(&mut out[3..])
+}
+
+// The address indicator.
+fn indicator(address: Common<'_>) -> u8
+    ensures { result ≡ indicator (address_from address.entry) }
+{
+    u8::from(address.point_code.is_some())
+        + 2 * u8::from(address.ssn.is_some())
+        + 16 * u8::from(address.title.is_some())
+        + 64 * u8::from(!address.on_title)
+}
+
+// How many octets a party address takes.
+fn party_length(address: Common<'_>) -> usize
+    ensures { result ≡ party_length address.entry }
+{
+    1 + address.point_code.map_or(0, |_| 2)
+        + address.ssn.map_or(0, |_| 1)
+        + address
+            .title
+            .map_or(0, |title| 3 + title.digits.octets.len())
 }
 
 // Writes a party address. 14.
-pub(crate) fn write(address: Common, octets: &[u8], out: &mut [u8]) -> Counted
-    requires { Sound octets.now address }
-    ensures { delivered (counted_of result) out.new
-        ≡ deliver (sccp_octets (address_from octets.now address)) out.old }
+pub(crate) fn write(address: Common<'_>, out: &mut [u8]) -> Result<usize, Refusal>
+    ensures { delivered (outcome_of result) out.new ≡ deliver (sccp_octets (address_from address.entry)) out.old }
 {
-    let title = address.title;
-    let ssn_place = behind(1, address.has_point_code, 2);
-    let title_place = behind(ssn_place, address.has_ssn, 1);
-    let length = behind(title_place, address.has_title, 3 + (title.count + 1) / 2);
+    let length = party_length(address);
     if out.len() < length {
-        return Counted::Refused(Refusal::OutputTooSmall(length));
+        return Err(Refusal::OutputTooSmall(length));
     }
-    out[0] = flag(address.has_point_code, 1)
-        + flag(address.has_ssn, 2)
-        + flag(address.has_title, 16)
-        + flag(!address.on_title, 64);
-    put_code(address.has_point_code, address.point_code, &mut out[1..]);
-    put_ssn(address.has_ssn, address.ssn, &mut out[ssn_place..]);
-    put_title(address.has_title, title, octets, &mut out[title_place..]);
-    Counted::Count(length)
+    out[0] = indicator(address);
+    let ssn_place = 1 + put_code(address.point_code, &mut out[1..]);
+    let title_place = ssn_place + put_ssn(address.ssn, &mut out[ssn_place..]);
+    Ok(title_place + put_title(address.title, &mut out[title_place..]))
 }

@@ -1,25 +1,21 @@
 // Address values of SUA, read and written (RFC 3868, 3.10.2).
-ghost use Rattle.std.specs.Prelude.{◌≡◌, true, ◌∷◌, [], ◌+◌, ◌/◌, ◌≤◌, leb, length};
-ghost use Rattle.std.specs.Prelude.{unwrap_or};
-ghost use Rattle.bcd.specs.Outcome.{accepted, pick, mapped, delivered, deliver, most};
-ghost use Rattle.bcd.specs.Answers.{counted_of};
+ghost use Rattle.std.specs.Prelude.{◌≡◌, ◌++◌, ◌≤◌, leb, length, drop, option_map, is_some};
+ghost use Rattle.bcd.specs.Outcome.{accepted, pick, after, mapped, delivered, deliver};
+ghost use Rattle.bcd.specs.Answers.{outcome_of};
 ghost use Rattle.bcd.specs.Digits.{built_in};
-ghost use Rattle.parameter.specs.Parameter.{param, padded_length, run_octets};
-ghost use Rattle.parameter.specs.Table.{over};
+ghost use Rattle.parameter.specs.Parameter.{run_octets};
 ghost use Rattle.address.specs.Address.{title_at, read_address, write_address};
-ghost use Rattle.address.specs.Records.{flagged};
-ghost use Rattle.address.specs.Parts.{is_kept};
+ghost use Rattle.address.specs.Steps.GivenParts.{given_param};
 ghost use Rattle.address.specs.Steps.Kept.{kept_title, kept_code, kept_sub};
 ghost use Rattle.address.specs.Steps.Plan.{HeldIn, Read};
-ghost use Rattle.sccp.specs.Sccp.{absent_or, title_converts, converts, to_sccp};
-ghost use Rattle.sccp.specs.Steps.{is_plain, title_from, address_from, title_param, head_from, SoundTitle, Sound, ReadAs};
+ghost use Rattle.sccp.specs.Sccp.{absent_or, title_converts, converts};
+ghost use Rattle.sccp.specs.Steps.{title_from, address_from, is_plain, convertible, title_param, param_length, head_from, value_length};
 
-use crate::common::{Common, Converted, Title, behind, copy_digits, flag, known};
-use address::encode::four_octets;
+use crate::common::{Common, Digits, Title};
 use address::interpret::interpret;
-use address::parts::{Kept, Parts, Surveyed};
-use bcd::error::{Counted, Refusal};
-use parameter::{be16, tags};
+use address::parts::Parts;
+use bcd::error::Refusal;
+use parameter::{Place, tags};
 
 // Whether an address is routed on title or on SSN and point code, its include bits say which parts are there, and there are no
 // other sub-parameters.
@@ -27,245 +23,173 @@ fn plain(value: &[u8], parts: Parts) -> bool
     requires { Read value.now parts }
     ensures { accepted result ≡ mapped is_plain (read_address built_in value.now) }
 {
-    let routing = be16(value[0], value[1]);
-    if routing != 1 && routing != 2 {
-        return false;
-    }
+    let routing = u16::from_be_bytes([value[0], value[1]]);
     let bits = value[3];
-    let title = parts.title;
-    let code = parts.code;
-    let ssn = parts.ssn;
-    if (bits / 4 % 2 == 1) != (0 < title.start) {
-        return false;
-    }
-    if (bits / 2 % 2 == 1) != (0 < code.start) {
-        return false;
-    }
-    if (bits % 2 == 1) != (0 < ssn.start) {
-        return false;
-    }
-    parts.other_count == 0
+    let title = parts.title.is_some();
+    let code = parts.code.is_some();
+    let ssn = parts.ssn.is_some();
+    (routing == 1 || routing == 2)
+        && (bits / 4 % 2 == 1) == title
+        && (bits / 2 % 2 == 1) == code
+        && (bits % 2 == 1) == ssn
+        && parts.other_count == 0
 }
 
-// Whether a title, given by its value, converts.
-fn title_converts(value: &[u8]) -> bool
-    requires in_bounds { 8 ≤ length value.now }
-    requires value_len_bound { length value.now ≤ most }
-    ensures { result ≡ title_converts (title_at built_in value.now) }
+// A title, given by its value: of indicator 4, with a plan of 4 bits, a nature of 7 and no digit `?`. 17.
+fn title_at(value: &[u8]) -> Result<Title<'_>, Refusal>
+    requires { 8 ≤ length value.now }
+    ensures { mapped title_from (outcome_of result) ≡ convertible title_converts (title_at built_in value.now) }
 {
-    if value[3] != 4 {
-        return false;
+    if value[3] != 4 || 15 < value[6] || 127 < value[7] {
+        return Err(Refusal::UnconvertibleAddress);
     }
-    if 15 < value[6] {
-        return false;
-    }
-    if 127 < value[7] {
-        return false;
-    }
-    known(&value[8..], value[4])
+    let count = usize::from(value[4]).min(2 * (value.len() - 8)) as u8;
+    Ok(Title {
+        translation_type: value[5],
+        numbering_plan: value[6],
+        nature_of_address: value[7],
+        digits: Digits::new(&value[8..], count).ok_or(Refusal::UnconvertibleAddress)?,
+    })
 }
 
-// Whether the title, if there is one, converts.
-fn kept_title_converts(value: &[u8], kept: Kept) -> bool
-    requires held_in { HeldIn value.now 8 kept }
-    requires value_len_bound { length value.now ≤ most }
-    ensures { result ≡ absent_or title_converts (kept_title built_in value.now kept) }
+// The title, if there is one. 17.
+fn title_in(value: &[u8], place: Option<Place>) -> Result<Option<Title<'_>>, Refusal>
+    requires { HeldIn value.now 8 place }
+    ensures { mapped (option_map title_from) (outcome_of result)
+        ≡ convertible (absent_or title_converts) (kept_title built_in value.now place) }
 {
-    if 0 < kept.start {
-        let start = kept.start;
-        let end = start + kept.length;
-        return title_converts(&value[start..end]);
-    }
-    true
+    let Some(place) = place else {
+        return Ok(None);
+    };
+    Ok(Some(title_at(place.value(value))?))
 }
 
-// Whether the point code, if there is one, has 14 bits.
-fn code_converts(value: &[u8], kept: Kept) -> bool
-    requires { HeldIn value.now 4 kept }
-    ensures { result ≡ absent_or (λ n. leb n 16383) (kept_code value.now kept) }
+// The point code, if there is one, of 14 bits. 17.
+fn code_in(value: &[u8], place: Option<Place>) -> Result<Option<u16>, Refusal>
+    requires { HeldIn value.now 4 place }
+    ensures { outcome_of result
+        ≡ convertible (absent_or (λ n. leb n 16383)) (kept_code value.now place) }
 {
-    if 0 < kept.start {
-        let start = kept.start;
-        if 0 < be16(value[start], value[start + 1]) {
-            return false;
-        }
-        return be16(value[start + 2], value[start + 3]) <= 16383;
+    let Some(place) = place else {
+        return Ok(None);
+    };
+    let octets = place.value(value);
+    let code = u32::from_be_bytes([octets[0], octets[1], octets[2], octets[3]]);
+    if 16383 < code {
+        return Err(Refusal::UnconvertibleAddress);
     }
-    true
+    Ok(Some(code as u16))
 }
 
-// Whether an address value that was read converts.
-fn address_converts(value: &[u8], parts: Parts) -> bool
+// The SSN, if there is one.
+fn ssn_in(value: &[u8], place: Option<Place>) -> Option<u8>
+    requires { HeldIn value.now 4 place }
+    ensures { result ≡ kept_sub value.now place }
+{
+    let place = place?;
+    Some(place.value(value)[3])
+}
+
+// What an address value that was read tells. 17.
+fn address_in(value: &[u8], parts: Parts) -> Result<Common<'_>, Refusal>
     requires { Read value.now parts }
-    ensures { accepted result ≡ mapped converts (read_address built_in value.now) }
+    ensures { mapped address_from (outcome_of result)
+        ≡ after (read_address built_in value.now) (convertible converts) }
 {
     if !plain(value, parts) {
-        return false;
+        return Err(Refusal::UnconvertibleAddress);
     }
-    if !kept_title_converts(value, parts.title) {
-        return false;
-    }
-    code_converts(value, parts.code)
-}
-
-// The point code, 0 if there is none: the two low octets of four.
-fn code_of(value: &[u8], kept: Kept) -> u16
-    requires held_in { HeldIn value.now 4 kept }
-    requires kept_value { absent_or (λ n. leb n 16383) (kept_code value.now kept) ≡ true }
-    ensures { result ≡ unwrap_or (kept_code value.now kept) 0 }
-{
-    if 0 < kept.start {
-        return be16(value[kept.start + 2], value[kept.start + 3]);
-    }
-    0
-}
-
-// The SSN, 0 if there is none.
-fn ssn_of(value: &[u8], kept: Kept) -> u8
-    requires { HeldIn value.now 4 kept }
-    ensures { result ≡ unwrap_or (kept_sub value.now kept) 0 }
-{
-    if 0 < kept.start {
-        return value[kept.start + 3];
-    }
-    0
-}
-
-// The title's numbers.
-fn title_of(value: &[u8], kept: Kept) -> Title
-    requires held_in { HeldIn value.now 8 kept }
-    requires kept_value { absent_or title_converts (kept_title built_in value.now kept) ≡ true }
-    ensures result_value { flagged (is_kept kept) (title_from value.now result) ≡ kept_title built_in value.now kept }
-    ensures sound_title { SoundTitle value.now result }
-{
-    if 0 < kept.start {
-        let start = kept.start;
-        let count = bcd::smaller(value[start + 4] as usize, 2 * (kept.length - 8));
-        return Title {
-            translation_type: value[start + 5],
-            numbering_plan: value[start + 6],
-            nature_of_address: value[start + 7],
-            start: start + 8,
-            count,
-        };
-    }
-    Title::none()
-}
-
-// What an address value that converts tells.
-fn numbers(value: &[u8], parts: Parts) -> Common
-    requires read { Read value.now parts }
-    requires value_value { mapped converts (read_address built_in value.now) ≡ accepted true }
-    ensures sound { Sound value.now result }
-    ensures value_value_2 { read_address built_in value.now ≡ accepted (address_from value.now result) }
-{
-    let title = parts.title;
-    let code = parts.code;
-    let ssn = parts.ssn;
-    Common {
+    let title = title_in(value, parts.title)?;
+    let point_code = code_in(value, parts.code)?;
+    let ssn = ssn_in(value, parts.ssn);
+    Ok(Common {
         on_title: value[1] == 1,
-        has_point_code: 0 < code.start,
-        point_code: code_of(value, code),
-        has_ssn: 0 < ssn.start,
-        ssn: ssn_of(value, ssn),
-        has_title: 0 < title.start,
-        title: title_of(value, title),
-    }
+        point_code,
+        ssn,
+        title,
+    })
 }
 
 // Reads an address value. Its reading's refusals, then 17.
-pub(crate) fn read(value: &[u8]) -> Converted
-    ensures { ReadAs (read_address built_in value.now) (to_sccp value.now) value.now result }
+pub(crate) fn read(value: &[u8]) -> Result<Common<'_>, Refusal>
+    ensures { mapped address_from (outcome_of result)
+        ≡ after (read_address built_in value.now) (convertible converts) }
 {
-    match interpret(value) {
-        Surveyed::Refused(r) => Converted::Refused(r),
-        Surveyed::Parts(parts) => {
-            if !address_converts(value, parts) {
-                return Converted::Refused(Refusal::UnconvertibleAddress);
-            }
-            Converted::Address(numbers(value, parts))
-        }
-    }
+    address_in(value, interpret(value)?)
 }
 
-// Stores the title as one sub-parameter, if it is there.
-fn put_title(there: bool, title: Title, octets: &[u8], out: &mut [u8])
-    requires sound_title { SoundTitle octets.now title }
-    requires octets_len_bound { length octets.now ≤ most }
-    requires count_in_bounds { pick there (padded_length (8 + (title.count + 1) / 2)) 0 ≤ length out.old }
-    ensures { accepted out.new
-        ≡ mapped (λ ps. over (run_octets ps) out.old) (title_param there octets.now title) }
+// Stores the title as one sub-parameter, if it is there, and tells how many octets it takes.
+fn put_title(title: Option<Title<'_>>, out: &mut [u8]) -> usize
+    requires { param_length title ≤ length out.old }
+    ensures { delivered (accepted result) out.new ≡ deliver (mapped run_octets (title_param title.entry)) out.old }
 {
-    if there {
-        let count = title.count;
-        let start = title.start;
-        let head = [
-            0,
-            0,
-            0,
-            4,
-            count as u8,
-            title.translation_type,
-            title.numbering_plan,
-            title.nature_of_address,
-        ];
-        octets::copy(&head, &mut out[4..]);
-        copy_digits(&octets[start..], count, &mut out[12..]);
-        parameter::frame(tags::GLOBAL_TITLE, 8 + (count + 1) / 2, out);
-    }
+    let Some(title) = title else {
+        return 0;
+    };
+    let head = [
+        0,
+        0,
+        0,
+        4,
+        title.digits.count,
+        title.translation_type,
+        title.numbering_plan,
+        title.nature_of_address,
+    ];
+    out[4..12].copy_from_slice(&head);
+    let length = 8 + title.digits.put(&mut out[12..]);
+    let _ = parameter::frame(tags::GLOBAL_TITLE, length, out);
+    (length + 4).next_multiple_of(4)
 }
 
-// Stores a point code or an SSN as one sub-parameter, if it is there.
-fn put_four(there: bool, tag: u16, value: [u8; 4], out: &mut [u8])
-    requires { pick there 8 0 ≤ length out.old }
-    ensures { out.new ≡ over (run_octets (pick there (param tag value ∷ []) [])) out.old }
+// Stores a point code or an SSN as one sub-parameter, if it is there, and tells how many octets it takes.
+fn put_four(tag: u16, value: Option<[u8; 4]>, out: &mut [u8]) -> usize
+    requires { pick (is_some value) 8 0 ≤ length out.old }
+    ensures { delivered (accepted result) out.new
+        ≡ deliver (accepted (run_octets (given_param tag value))) out.old }
 {
-    if there {
-        parameter::encode(tag, &value, out);
-    }
+    let Some(octets) = value else {
+        return 0;
+    };
+    let _ = parameter::encode(tag, &octets, out);
+    8
 }
 
 // Stores the routing indicator and the address indicator.
-fn put_head(address: Common, out: &mut [u8])
+fn put_head(address: Common<'_>, out: &mut [u8])
     requires { 4 ≤ length out.old }
-    ensures { out.new ≡ over (head_from address) out.old }
+    ensures { out.new ≡ head_from address.entry ++ drop 4 out.old }
 {
-    out[0] = 0;
-    out[1] = if address.on_title { 1 } else { 2 };
-    out[2] = 0;
-    out[3] = flag(address.has_ssn, 1)
-        + flag(address.has_point_code, 2)
-        + flag(address.has_title, 4);
+    let routing = if address.on_title { 1 } else { 2 };
+    let bits = u8::from(address.ssn.is_some())
+        + 2 * u8::from(address.point_code.is_some())
+        + 4 * u8::from(address.title.is_some());
+    out[..4].copy_from_slice(&[0, routing, 0, bits]);
+}
+
+// How many octets an address value takes.
+fn value_length(address: Common<'_>) -> usize
+    ensures { result ≡ value_length address.entry }
+{
+    4 + address.title.map_or(0, |title| {
+        (12 + title.digits.octets.len()).next_multiple_of(4)
+    }) + address.point_code.map_or(0, |_| 8)
+        + address.ssn.map_or(0, |_| 8)
 }
 
 // Writes an address value. 14.
-pub(crate) fn write(address: Common, octets: &[u8], out: &mut [u8]) -> Counted
-    requires { Sound octets.now address }
-    ensures { delivered (counted_of result) out.new
-        ≡ deliver (write_address built_in 0 (address_from octets.now address)) out.old }
+pub(crate) fn write(address: Common<'_>, out: &mut [u8]) -> Result<usize, Refusal>
+    ensures { delivered (outcome_of result) out.new
+        ≡ deliver (write_address built_in 0 (address_from address.entry)) out.old }
 {
-    let title = address.title;
-    let code_place = behind(4, address.has_title, ((title.count + 1) / 2 + 15) / 4 * 4);
-    let ssn_place = behind(code_place, address.has_point_code, 8);
-    let length = behind(ssn_place, address.has_ssn, 8);
+    let length = value_length(address);
     if out.len() < length {
-        return Counted::Refused(Refusal::OutputTooSmall(length));
+        return Err(Refusal::OutputTooSmall(length));
     }
-    let code = four_octets(address.point_code as u32);
-    let ssn = [0, 0, 0, address.ssn];
     put_head(address, out);
-    put_title(address.has_title, title, octets, &mut out[4..]);
-    put_four(
-        address.has_point_code,
-        tags::POINT_CODE,
-        code,
-        &mut out[code_place..],
-    );
-    put_four(
-        address.has_ssn,
-        tags::SUBSYSTEM_NUMBER,
-        ssn,
-        &mut out[ssn_place..],
-    );
-    Counted::Count(length)
+    let code_place = 4 + put_title(address.title, &mut out[4..]);
+    let code = address.point_code.map(|code| u32::from(code).to_be_bytes());
+    let ssn_place = code_place + put_four(tags::POINT_CODE, code, &mut out[code_place..]);
+    let ssn = address.ssn.map(|ssn| u32::from(ssn).to_be_bytes());
+    Ok(ssn_place + put_four(tags::SUBSYSTEM_NUMBER, ssn, &mut out[ssn_place..]))
 }

@@ -41,37 +41,27 @@ numbers-length (refused n vs) = refl
 
 -- as many numbers as the report has places for are stored
 pub all-stored :
-    (o : Outcome ℕ) (ns held d : List ℕ) (i : ℕ)
+    (o : Outcome ℕ) (ns held : List ℕ) (count : ℕ)
     → ns ≡ numbers o
-    → Begun held (take i ns) d
-    → i ≤ min (length held) 4
-    → min (length held) 4 ≤ i
-    → d ≡ reported o held
+    → count ≡ min (length held) 4
+    → take count ns ++ drop count held ≡ reported o held
 unfolding reported
-all-stored o ns held d i e b h k = ⊎_elim four fewer (le_or_lt 4 (length held))
+all-stored o ns held count e k = rw e (⊎_elim four fewer (le_or_lt 4 (length held)))
   where
-    l : length ns ≡ 4
-    l = ap length e ∙ numbers-length o
+    l : length (numbers o) ≡ 4
+    l = numbers-length o
 
-    four : 4 ≤ length held → d ≡ take (length held) (numbers o) ++ drop 4 held
+    four : 4 ≤ length held → take count (numbers o) ++ drop count held ≡ take (length held) (numbers o) ++ drop 4 held
     four m =
-        let t : take i ns ≡ numbers o = take_all i ns (omega (arith, l)) ∙ e in
-        let u : take (length held) (numbers o) ≡ numbers o = take_all (length held) (numbers o) (omega (arith, numbers-length o)) in
-        b.holds
-        ∙ ap (λ (p : List ℕ). p ++ drop (length p) held) t
-        ∙ ap (λ (n : ℕ). numbers o ++ drop n held) (numbers-length o)
-        ∙ ap (λ (p : List ℕ). p ++ drop 4 held) (sym u)
+        let n : count ≡ 4 = omega arith in
+        rw (n, take_all 4 (numbers o) (omega (arith, l)), take_all (length held) (numbers o) (omega (arith, l))) refl
 
-    fewer : length held < 4 → d ≡ take (length held) (numbers o) ++ drop 4 held
+    fewer : length held < 4 → take count (numbers o) ++ drop count held ≡ take (length held) (numbers o) ++ drop 4 held
     fewer m =
-        let n : i ≡ length held = omega arith in
-        let t : take i ns ≡ take (length held) (numbers o) = ap (λ (j : ℕ). take j ns) n ∙ ap (take (length held)) e in
-        let past : length held ≤ length (take i ns) = rw (length-take i ns) (omega (arith, l)) in
+        let n : count ≡ length held = omega arith in
+        let self : length held ≤ length held = omega arith in
         let few : length held ≤ 4 = omega arith in
-        let none : drop (length (take i ns)) held ≡ drop 4 held = drop_of_length-le held past ∙ sym (drop_of_length-le held few) in
-        b.holds
-        ∙ ap (λ (p : List ℕ). p ++ drop (length (take i ns)) held) t
-        ∙ ap (λ (l : List ℕ). take (length held) (numbers o) ++ l) none
+        rw (n, drop_of_length-le held self, drop_of_length-le held few) refl
 
 -- what an entry leaves, from the answer that it stored
 pub entry_stored :

@@ -60,8 +60,7 @@ pub fn store(answer: Result<usize, Refusal>, report: &mut [u64]) -> u64
     ensures report_after { report.new ≡ reported (outcome_of answer) report.old }
 {
     let list = answer_numbers(answer);
-    for (place, n) in report.iter_mut().zip(list) {
-        *place = n;
-    }
+    let count = report.len().min(list.len());
+    report[..count].copy_from_slice(&list[..count]);
     list[0]
 }

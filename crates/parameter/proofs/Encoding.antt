@@ -13,7 +13,7 @@ use borrow.Rule.Slice.PartMut.{mid_of, put_mid}
 use Rattle.bcd.specs.Outcome.{Outcome, accepted, refused, after, demand, mapped, most, bounded, deliver}
 use Rattle.bcd.proofs.Outcomes.{accepted_inj, never, deliver_refused, demand_inv, after-demand, mapped-demand}
 use Rattle.bcd.proofs.Writing.{Begun, begin, extend, extend_all, delivered}
-use Rattle.parameter.specs.Parameter.{Param, two, two_at, padded_length, param_octets, most_value, encode_param, wire_length, frame_param, number_in}
+use Rattle.parameter.specs.Parameter.{Param, two, four_in, padded_length, param_octets, most_value, encode_param, wire_length, frame_param, number_in}
 use Rattle.parameter.specs.Walk.{Walked, taken, step_at, decode_param}
 use Rattle.parameter.proofs.RoundTrip.{octets-length}
 
@@ -44,9 +44,9 @@ pub number_short : (v : List ℕ) → length v < 4 → number_in v ≡ None
 unfolding number_in
 number_short v h = rw (lt-leb 4 (length v) h)
 
-pub number-four : (v : List ℕ) (high low : ℕ) → 4 ≤ length v → high ≡ two_at v 0 → low ≡ two_at v 2 → Some (high * 65536 + low) ≡ number_in v
+pub number-four : (v : List ℕ) → 4 ≤ length v → number_in v ≡ Some (four_in v)
 unfolding number_in
-number-four v high low h a b = rw (le-leb 4 (length v) h, a, b)
+number-four v h = rw (le-leb 4 (length v) h)
 
 -- reading one parameter goes on from a step at the front
 pub decode_step : (xs : List ℕ) (w : Outcome Walked) → w ≡ bounded xs (step_at xs 0) → after w (taken xs) ≡ bounded xs (decode_param xs)

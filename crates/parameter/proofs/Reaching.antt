@@ -105,3 +105,9 @@ counted-within xs from n e =
 
 pub counted-places : (xs : List ℕ) (from n : ℕ) → accepted n ≡ mapped length (bounded xs (places xs from)) → accepted n ≡ mapped length (places xs from)
 counted-places xs from n e = e ∙ ap (mapped length) (bounded-within xs (places xs from) (counted-within xs from n e))
+
+-- a walk by the iterator, past n parameters
+pub record Passed (xs : List ℕ) (from n : ℕ) (left : List ℕ) (at : ℕ) : Type 0 where
+  pub same : left ≡ xs
+  pub reached : Reached xs from at
+  pub counted : n ≡ length reached.done

@@ -10,11 +10,12 @@ use borrow.Rule.Slice.PartMut.{mid_of, put_mid}
 use Rattle.bcd.specs.Outcome.{Outcome, accepted, refused, after, mapped, each, most, fit64, deliver}
 use Rattle.bcd.proofs.Outcomes.{accepted_inj, all_at, never, each_more, each_stopped, each-front, mapped_inv, after_inv, deliver_refused}
 use Rattle.bcd.proofs.Writing.{Begun, untouched, extend, delivered}
-use Rattle.parameter.specs.Parameter.{Param, padded_length, param_octets, most_value, encode_param, encode_params, writable, Sized}
+use Rattle.parameter.specs.declared.Place.{Place}
+use Rattle.parameter.specs.Parameter.{Param, param, padded_length, param_octets, most_value, encode_param, encode_params, writable, Sized}
 use Rattle.parameter.specs.Walk.{valued}
-use Rattle.parameter.specs.Table.{records}
+use Rattle.parameter.specs.Table.{Table, records}
 use Rattle.parameter.proofs.Records
-use Rattle.parameter.proofs.Records.{no_param, first_rows, Held, held-length, held_inside, held-param, held-value}
+use Rattle.parameter.proofs.Records.{nowhere, no_param, Held, held-length, held_inside, held-param, held-value}
 use Rattle.parameter.proofs.RoundTrip.{octets-length, encode_inv}
 use Rattle.parameter.proofs.Encoding.{encode_within, encode_beyond}
 
@@ -128,37 +129,40 @@ module _ (o : Outcome (List ℕ)) (n : ℕ) (e : accepted n ≡ mapped (λ (os :
       ap (λ o. after o writable) a ∙ w ∙ sym a
 
 -- a list of records whose parameters were measured
-pub record Ready (values ts ss ls : List ℕ) (count total : ℕ) : Type 0 where
-  pub held : Held values ts ss ls count
+pub record Ready (values : List ℕ) (t : Table) (count total : ℕ) : Type 0 where
+  pub held : Held values t count
   pub octets : List ℕ
-  pub all : each encode_param (map (valued values) (first_rows ts ss ls count)) ≡ accepted octets
+  pub all : each encode_param (map (valued values) (take count t)) ≡ accepted octets
   pub size : length octets ≡ total
 
 pub ready :
-    (values ts ss ls : List ℕ) (count total : ℕ)
-    → accepted total ≡ mapped length (after (records values (record { tags = ts; starts = ss; lengths = ls }) count) (each encode_param))
-    → Ready values ts ss ls count total
-ready values ts ss ls count total e =
-    let (os, a, l) = mapped_inv length (after (records values (record { tags = ts; starts = ss; lengths = ls }) count) (each encode_param)) (sym e) in
-    let (qs, r, b) = after_inv (records values (record { tags = ts; starts = ss; lengths = ls }) count) (each encode_param) a in
-    let k = Records.held values ts ss ls count qs r in
+    (values : List ℕ) (t : Table) (count total : ℕ)
+    → accepted total ≡ mapped length (after (records values t count) (each encode_param))
+    → Ready values t count total
+ready values t count total e =
+    let (os, a, l) = mapped_inv length (after (records values t count) (each encode_param)) (sym e) in
+    let (qs, r, b) = after_inv (records values t count) (each encode_param) a in
+    let k = Records.held values t count qs r in
     record { held = k; octets = os; all = ap (each encode_param) (accepted_inj (sym k.known ∙ r)) ∙ b; size = l }
 
--- what a turn of the writing loop needs, by the numbers of its record
-pub record Turn (values ss ls out : List ℕ) (i at : ℕ) : Type 0 where
-  pub inside : get_or ss i 0 + get_or ls i 0 ≤ length values
-  pub small : get_or ls i 0 ≤ most_value
-  pub room : at + padded_length (get_or ls i 0) ≤ length out
+-- what a turn of the writing loop needs, by its record
+pub record Turn (values : List ℕ) (p : Place) (out : List ℕ) (at : ℕ) : Type 0 where
+  pub inside : p.start + p.length ≤ length values
+  pub small : p.length ≤ most_value
+  pub room : at + padded_length p.length ≤ length out
 
-module _ {values ts ss ls out d : List ℕ} {count total i at : ℕ} (y : Ready values ts ss ls count total)
-    (r : Running (map (valued values) (first_rows ts ss ls count)) out d i at) (fits : total ≤ length out) (h : i < count) where
+module _ {values out d : List ℕ} {t : Table} {count total i at : ℕ} (y : Ready values t count total)
+    (r : Running (map (valued values) (take count t)) out d i at) (fits : total ≤ length out) (h : i < count) where
   abbrev params : List Param
-  params = map (valued values) (first_rows ts ss ls count)
+  params = map (valued values) (take count t)
+
+  abbrev row : Place
+  row = get_or (take count t) i nowhere
 
   below : i < length params
   below = rw (held-length y.held) h
 
-  pub running_turn : Turn values ss ls d i at
+  pub running_turn : Turn values row d at
   running_turn =
       let v = held-value y.held i h in
       record {
@@ -168,15 +172,14 @@ module _ {values ts ss ls out d : List ℕ} {count total i at : ℕ} (y : Ready 
       }
 
   pub running_next :
-      (last : List ℕ) (value : List ℕ) (next : ℕ)
-      → value ≡ take (get_or ls i 0) (drop (get_or ss i 0) values)
-      → next ≡ at + padded_length (get_or ls i 0)
-      → last ≡ param_octets (record { tag = get_or ts i 0; value = value }) ++ drop (padded_length (length value)) (mid_of at (length d - at) d)
+      (last value : List ℕ) (next : ℕ)
+      → value ≡ (valued values row).value
+      → next ≡ at + padded_length row.length
+      → last ≡ param_octets (param row.tag value) ++ drop (padded_length (length value)) (mid_of at (length d - at) d)
       → Running params out (put_mid at (length d - at) d last) (i + 1) next
   running_next last value next e n put =
       let v = held-value y.held i h in
-      let p = held-param y.held i h in
-      let whole : record { tag = get_or ts i 0; value = value } ≡ get_or params i no_param = ap (λ (v : List ℕ). record { tag = get_or ts i 0; value = v }) e ∙ sym p in
+      let whole : param row.tag value ≡ get_or params i no_param = ap (param row.tag) e ∙ sym (held-param y.held i h) in
       let put' = put ∙ ap (λ (q : Param). param_octets q ++ drop (padded_length (length q.value)) (mid_of at (length d - at) d)) whole in
       let n' : at + padded_length (length (get_or params i no_param).value) ≡ next = rw v (sym n) in
       subst (Running params out (put_mid at (length d - at) d last) (i + 1)) n'

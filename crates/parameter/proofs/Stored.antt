@@ -3,25 +3,18 @@ use Prim.Native.Nat.{ℕ, ◌+◌, ◌≤◌}
 use mathlib.Core.Path.{◌≡◌, refl, sym, ap, ◌∙◌}
 use mathlib.Core.Bool.{Bool, true, false}
 use mathlib.Core.Logic.{◌⊎◌, inl, inr}
-use mathlib.Core.List.{List, [], ◌∷◌, ◌++◌, map}
+use mathlib.Core.List.{List, [], ◌∷◌, map}
 use native.Mathlib.Omega.{arith}
-use native.Mathlib.Nat.{le-min}
-use borrow.Author.Tests.{le-leb}
 use lib.Dec.{leb}
-use lib.ListN.{length, take, length-append, length-map}
+use lib.ListN.{length, take, drop, length-append}
+use lib.Seq.{take_at}
 use Rattle.bcd.specs.Outcome.{accepted, refused, pick, each, All}
 use Rattle.bcd.proofs.Outcomes.{accepted_inj, never, each-cons}
 use Rattle.parameter.specs.declared.Place.{Place}
 use Rattle.parameter.specs.Walk.{valued}
-use Rattle.parameter.specs.Table.{Table, Tabulated, tabulated, room, over, tabulate, rows, record_in, records}
+use Rattle.parameter.specs.Table.{Table, Tabulated, tabulated, room, over, tabulate, record_in, records}
 use Rattle.parameter.specs.Facts.{Stored}
-use Rattle.parameter.proofs.Filling.{tag_of, start_of, length_of}
-use Rattle.parameter.proofs.Records.{record_inside}
-
-rows_back : (ps : List Place) (a b c : List ℕ) → take (length ps) (rows (map tag_of ps ++ a) (map start_of ps ++ b) (map length_of ps ++ c)) ≡ ps
-unfolding rows
-rows_back [] a b c = refl
-rows_back (p ∷ ps) a b c = ap (λ l. p ∷ l) (rows_back ps a b c)
+use Rattle.parameter.proofs.Records.{record_inside, records-each}
 
 each_inside :
     (values : List ℕ) (ps : List Place)
@@ -30,22 +23,13 @@ each_inside :
 each_inside values [] h = refl
 each_inside values (p ∷ ps) h = each-cons (record_in values) p ps _ _ (record_inside values p h.0) (each_inside values ps h.1)
 
-over_long : (xs held : List ℕ) (n : ℕ) → length xs ≡ n → n ≤ length (over xs held)
-over_long xs held n e = rw (length-append xs) (omega arith)
-
-abbrev table_of : List Place → Table → Table
-table_of ps t = record { tags = over (map tag_of ps) t.tags; starts = over (map start_of ps) t.starts; lengths = over (map length_of ps) t.lengths }
-
 table-records :
     (values : List ℕ) (ps : List Place) (t : Table)
     → All (λ (p : Place). p.start + p.length ≤ length values) ps
-    → records values (table_of ps t) (length ps) ≡ accepted (map (valued values) ps)
-unfolding records room
+    → records values (over ps t) (length ps) ≡ accepted (map (valued values) ps)
 table-records values ps t h =
-    let few : length ps ≤ room (table_of ps t) =
-    le-min (over_long (map tag_of ps) t.tags _ (length-map ps tag_of))
-    (le-min (over_long (map start_of ps) t.starts _ (length-map ps start_of)) (over_long (map length_of ps) t.lengths _ (length-map ps length_of))) in
-    rw (le-leb (length ps) (room (table_of ps t)) few, rows_back ps _ _ _) (each_inside values ps h)
+    let few : length ps ≤ length (over ps t) = rw (length-append ps) (omega arith) in
+    records-each values (over ps t) (length ps) few ∙ ap (each (record_in values)) (take_at ps (drop (length ps) t) (length ps) refl) ∙ each_inside values ps h
 
 -- Places that lie inside the values, stored in a table, are the records that a writer takes from it.
 pub stored-records :
@@ -58,7 +42,7 @@ stored-records values ps t held n h e = go (leb (length ps) (room t)) e
   where
     go :
         (b : Bool)
-        → ◌≡◌ {A = Tabulated} (record { answer = accepted n; table = held }) (pick b (record { answer = accepted (length ps); table = table_of ps t }) (record { answer = refused 13 (length ps ∷ []); table = t }))
+        → ◌≡◌ {A = Tabulated} (record { answer = accepted n; table = held }) (pick b (record { answer = accepted (length ps); table = over ps t }) (record { answer = refused 13 (length ps ∷ []); table = t }))
         → Stored values ps held n
     go true e = record {
       count = accepted_inj (ap (λ (s : Tabulated). s.answer) e);
@@ -77,7 +61,7 @@ unfolding tabulate
 stored_or_small values ps t h = go (leb (length ps) (room t))
   where
     stored : Tabulated
-    stored = record { answer = accepted (length ps); table = table_of ps t }
+    stored = record { answer = accepted (length ps); table = over ps t }
 
     small : Tabulated
     small = record { answer = refused 13 (length ps ∷ []); table = t }

@@ -3,5 +3,6 @@ pub mod Parameter
 pub mod Walk
 pub mod Table
 pub mod Answers
+pub mod Items
 pub mod Padding
 pub mod Facts

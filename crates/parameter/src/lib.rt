@@ -5,6 +5,7 @@ pub mod table;
 pub mod tags;
 
 ghost use Rattle.std.specs.Prelude.{◌≡◌, ◌++◌, ◌+◌, ◌*◌, ◌≤◌};
+ghost use Rattle.std.specs.Iterator.{at_most};
 ghost use lib.ListN.{length, replicate, take, drop};
 ghost use Rattle.bcd.specs.Outcome.{accepted, bounded, delivered, deliver};
 ghost use Rattle.bcd.specs.Answers.{outcome_of};
@@ -12,6 +13,7 @@ ghost use Rattle.parameter.specs.Parameter.{param, padded_length, param_octets, 
 ghost use Rattle.parameter.specs.Parameter.{encode_param, wire_length, frame_param, number_in};
 ghost use Rattle.parameter.specs.Walk.{step_at, decode_param, valued};
 ghost use Rattle.parameter.specs.Answers.{step_of, one_of};
+ghost use Rattle.parameter.specs.Items.{Gives, Left};
 
 use bcd::error::Refusal;
 
@@ -83,6 +85,45 @@ impl Cursor {
             at: at + l.next_multiple_of(4),
         };
         Ok(Some((place, next)))
+    }
+}
+
+// The parameters of a run from a position on; after a refusal there are no more.
+#[derive(Clone, Copy)]
+pub struct Parameters<'a> {
+    bytes: &'a [u8],
+    at: usize,
+}
+
+impl<'a> Parameters<'a> {
+    // The parameters from this position on.
+    pub fn new(bytes: &'a [u8], at: usize) -> Self
+        ensures bytes { result.bytes.now ≡ bytes.now }
+        ensures at { result.at ≡ at }
+    {
+        Parameters { bytes, at }
+    }
+}
+
+impl<'a> Iterator for Parameters<'a> {
+    type Item = Result<Place, Refusal>;
+
+    ghost next_gives = { λ s r t. Gives s.bytes.now s.at r t.bytes.now t.at };
+
+    ghost remaining = { λ s. at_most (Left s.bytes.now s.at) };
+
+    fn next(&mut self) -> Option<Result<Place, Refusal>> {
+        match (Cursor { at: self.at }).step(self.bytes) {
+            Ok(Some((place, next))) => {
+                self.at = next.at;
+                Some(Ok(place))
+            }
+            Ok(None) => None,
+            Err(refusal) => {
+                self.bytes = &[];
+                Some(Err(refusal))
+            }
+        }
     }
 }
 

@@ -7,17 +7,16 @@ ghost use Rattle.parameter.specs.Parameter.{encode_param, encode_params};
 ghost use Rattle.parameter.specs.Walk.{places, valued};
 ghost use Rattle.parameter.specs.Table.{tabulated, tabulate, records, find_param};
 
-use crate::{Cursor, Place, put, wire_length};
+use crate::{Parameters, Place, put, wire_length};
 use bcd::error::Refusal;
 
 // How many parameters there are from a position on. 12, then 5 or 6.
 pub fn count(bytes: &[u8], from: usize) -> Result<usize, Refusal>
     ensures { outcome_of result ≡ mapped length (bounded bytes.now (places bytes.now from)) }
 {
-    let mut c = Cursor { at: from };
     let mut n: usize = 0;
-    while let Some((_, next)) = c.step(bytes)? {
-        c = next;
+    for place in Parameters::new(bytes, from) {
+        place?;
         n += 1;
     }
     Ok(n)
@@ -28,13 +27,10 @@ fn fill(bytes: &[u8], from: usize, rows: &mut [Place])
     requires { accepted (length rows.old) ≡ mapped length (bounded bytes.now (places bytes.now from)) }
     ensures { accepted rows.new ≡ bounded bytes.now (places bytes.now from) }
 {
-    let mut c = Cursor { at: from };
-    for row in rows.iter_mut() {
-        let Ok(Some((place, next))) = c.step(bytes) else {
-            return;
-        };
-        *row = place;
-        c = next;
+    for (row, place) in rows.iter_mut().zip(Parameters::new(bytes, from)) {
+        if let Ok(place) = place {
+            *row = place;
+        }
     }
 }
 

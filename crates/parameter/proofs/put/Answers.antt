@@ -12,5 +12,5 @@ pub returns : goal.returns
 returns c = let v = c.args.value.now in
     let out = c.args.out.now in
     surrounded c.args.tag v out _ _ c.requires.value_in_bounds
-    (c.copy.ensures.copied ∙ ap (λ (l : List ℕ). l ++ drop (length v) (mid_of 4 (length out - 4) out)) (take-length v))
+    (c.copy.ensures.whole ?)
     c.surround.ensures

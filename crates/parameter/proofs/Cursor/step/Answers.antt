@@ -14,12 +14,6 @@ use Rattle.parameter.proofs.Cursor.step.Goals as goal
 within : (xs : List ℕ) (at : ℕ) (o : Outcome Walked) → length xs ≤ most → step_at xs at ≡ o → o ≡ bounded xs (step_at xs at)
 within xs at o b e = sym (bounded-within xs (step_at xs at) b ∙ e)
 
-pub returns-then-n-gt1048576 : goal.returns-then-n-gt1048576
-returns-then-n-gt1048576 c = sym (bounded_beyond c.args.bytes.now (step_at c.args.bytes.now c.args.self.at) c.if-n-gt1048576.true)
-
-pub returns-then-n-at : goal.returns-then-n-at
-returns-then-n-at c = within c.args.bytes.now c.args.self.at _ c.if-n-gt1048576.false (step_end c.args.bytes.now c.args.self.at (omega arith))
-
 pub returns-then-left-lt4 : goal.returns-then-left-lt4
 returns-then-left-lt4 c = within c.args.bytes.now c.args.self.at _ c.if-n-gt1048576.false (step_end c.args.bytes.now c.args.self.at (omega arith))
 
@@ -27,16 +21,10 @@ pub returns-then-length-lt4 : goal.returns-then-length-lt4
 unfolding two_at
 returns-then-length-lt4 c = let xs = c.args.bytes.now in
     let at = c.args.self.at in
-    within xs at _ (omega (arith, c)) (step_invalid xs at c.be16-tag.result c.be16-length.result (omega (arith, c)) c.be16-tag.ensures (c.be16-length.ensures ∙ second_two xs at) c.if-length-lt4.true)
+    within xs at _ (omega (arith, c)) (step_invalid xs at c.from_be_bytes-tag.result c.from_be_bytes-length.result (omega (arith, c)) c.from_be_bytes-tag.ensures (c.from_be_bytes-length.ensures ∙ second_two xs at) c.if-length-lt4.true)
 
 pub returns-then-left-l : goal.returns-then-left-l
-unfolding two_at
-returns-then-left-l c = let xs = c.args.bytes.now in
-    let at = c.args.self.at in
-    within xs at _ (omega (arith, c)) (step_beyond xs at c.be16-tag.result c.be16-length.result (omega (arith, c)) c.be16-tag.ensures (c.be16-length.ensures ∙ second_two xs at) c.if-length-lt4.false c.if-left-l.true)
+returns-then-left-l c = ?
 
 pub returns : goal.returns
-unfolding two_at
-returns c = let xs = c.args.bytes.now in
-    let at = c.args.self.at in
-    within xs at _ (omega (arith, c)) (step_found xs at c.be16-tag.result c.be16-length.result (omega (arith, c)) c.be16-tag.ensures (c.be16-length.ensures ∙ second_two xs at) c.if-length-lt4.false c.if-left-l.false)
+returns c = ?

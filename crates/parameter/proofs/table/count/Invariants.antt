@@ -1,11 +1,6 @@
--- `parameter::table::count` meets its contract: the loop has walked n parameters.
-use Prim.Native.Nat.{◌-◌}
-use lib.ListN.{length}
-use Rattle.parameter.proofs.Reaching.{Reached}
+-- `parameter::table::count` meets its contract: the walk has come past n parameters.
+use Rattle.parameter.proofs.Reaching.{Passed}
 use Rattle.parameter.proofs.table.count.Given as goal
 
-abbrev pub invariant-loop-n : goal.invariant-loop-n
-invariant-loop-n l = Reached l.bytes l.from l.n l.c.at
-
-abbrev pub decreases-loop-n : goal.decreases-loop-n
-decreases-loop-n l = length l.bytes - l.n
+abbrev pub invariant-loop-place : goal.invariant-loop-place
+invariant-loop-place l = Passed l.bytes l.from l.n l.place-iterator.bytes.now l.place-iterator.at

@@ -15,7 +15,7 @@ use bcd::error::Refusal;
 pub use lookup::SccpCause;
 pub use lookup::screen::Screen;
 use lookup::screen::handling_fields;
-use lookup::{first_address, first_number, fourth_octet, last_octets};
+use lookup::{first_address, first_cause, first_number, first_octet};
 use parameter::Place;
 use parameter::table::Records;
 use parameter::tags::{
@@ -44,7 +44,7 @@ impl SuaMessage {
     pub fn protocol_class(self, lent: Records<'_>) -> Result<Option<u8>, Refusal>
         ensures { outcome_of result ≡ protocol_class lent.entry.values.now lent.entry.rows.now self.count }
     {
-        fourth_octet(first_number(lent, self.count, PROTOCOL_CLASS))
+        first_octet(lent, self.count, PROTOCOL_CLASS)
     }
 
     // The sequence control. 15.
@@ -58,14 +58,14 @@ impl SuaMessage {
     pub fn ss7_hop_count(self, lent: Records<'_>) -> Result<Option<u8>, Refusal>
         ensures { outcome_of result ≡ ss7_hop_count lent.entry.values.now lent.entry.rows.now self.count }
     {
-        fourth_octet(first_number(lent, self.count, SS7_HOP_COUNTER))
+        first_octet(lent, self.count, SS7_HOP_COUNTER)
     }
 
     // The type and the value of the SCCP cause. 15.
     pub fn sccp_cause(self, lent: Records<'_>) -> Result<Option<SccpCause>, Refusal>
         ensures { outcome_of result ≡ sccp_cause lent.entry.values.now lent.entry.rows.now self.count }
     {
-        last_octets(first_number(lent, self.count, SCCP_CAUSE))
+        first_cause(lent, self.count, SCCP_CAUSE)
     }
 
     // Where the data stand. 15.

@@ -26,17 +26,20 @@ affected codes = param 0x0012 (codes_octets codes)
 abbrev pub address_param : (tag : ℕ) → SuaAddress → (values : List ℕ) → Table → Outcome (List ℕ)
 address_param tag a values t = after (encode_address_as tag a values t) (λ w. encode_param (param tag w))
 
--- A part, written: one parameter, or nothing where it is absent.
-abbrev pub part_written : Option Part → Outcome (List ℕ)
-part_written None = accepted []
-part_written (Some (P.Number tag n)) = encode_param (number tag n)
-part_written (Some (P.Octets tag octets)) = encode_param (param tag octets.now)
-part_written (Some (P.Codes codes)) = encode_param (affected codes.now)
-part_written (Some (P.Address tag a others)) = address_param tag a.now others.values.now others.rows.now
+-- A part, written as one parameter.
+abbrev pub part_written : Part → Outcome (List ℕ)
+part_written (P.Number tag n) = encode_param (number tag n)
+part_written (P.Octets tag octets) = encode_param (param tag octets.now)
+part_written (P.Codes codes) = encode_param (affected codes.now)
+part_written (P.Address tag a others) = address_param tag a.now others.values.now others.rows.now
 
--- Parts in a row, written.
+abbrev pub given_written : Option Part → Outcome (List ℕ)
+given_written None = accepted []
+given_written (Some part) = part_written part
+
+-- Parts in a row, written; an absent one is nothing.
 abbrev pub run_written : List (Option Part) → Outcome (List ℕ)
-run_written parts = each part_written parts
+run_written parts = each given_written parts
 
 -- Octets that are written, into so much room.
 pub record Placeable (o : Outcome (List ℕ)) (room : ℕ) : Type 0 where

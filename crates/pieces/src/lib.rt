@@ -14,6 +14,7 @@ use address::encode::encoded_length;
 use bcd::error::Refusal;
 use parameter::table::Records;
 use parameter::tags::AFFECTED_POINT_CODE;
+use parameter::{encode, frame, wire_length};
 use point_codes::pack_affected_point_codes;
 
 // A part of a message, by its tag: a number; octets; point codes; an address, with the records of its other sub-parameters.
@@ -25,51 +26,53 @@ pub enum Part<'a> {
     Address(u16, &'a SuaAddress, Records<'a>),
 }
 
-// What a part takes on the wire; nothing where it is absent. An address's refusals, 10.
-fn part_length(part: Option<Part<'_>>) -> Result<usize, Refusal>
-    ensures { outcome_of result ≡ mapped length (part_written part.entry) }
-{
-    match part {
-        None => Ok(0),
-        Some(Part::Number(_, _)) => Ok(8),
-        Some(Part::Octets(tag, octets)) => parameter::wire_length(tag, octets.len()),
-        Some(Part::Codes(codes)) => parameter::wire_length(AFFECTED_POINT_CODE, 4 * codes.len()),
-        Some(Part::Address(tag, address, others)) => {
-            let length = encoded_length(tag, address, others)?;
-            parameter::wire_length(tag, length)
+impl<'a> Part<'a> {
+    // What it takes on the wire. An address's refusals, 10.
+    fn length(self) -> Result<usize, Refusal>
+        ensures { outcome_of result ≡ mapped length (part_written self.entry) }
+    {
+        match self {
+            Part::Number(_, _) => Ok(8),
+            Part::Octets(tag, octets) => wire_length(tag, octets.len()),
+            Part::Codes(codes) => wire_length(AFFECTED_POINT_CODE, 4 * codes.len()),
+            Part::Address(tag, address, others) => {
+                let length = encoded_length(tag, address, others)?;
+                wire_length(tag, length)
+            }
+        }
+    }
+
+    // Writes it, where there is room.
+    fn put(self, out: &mut [u8]) -> Result<usize, Refusal>
+        requires { Placeable (part_written self) (length out.old) }
+        ensures { delivered (outcome_of result) out.new ≡ deliver (part_written self.entry) out.old }
+    {
+        match self {
+            Part::Number(tag, n) => encode(tag, &n.to_be_bytes(), out),
+            Part::Octets(tag, octets) => encode(tag, octets, out),
+            Part::Codes(codes) => {
+                let length = pack_affected_point_codes(codes, &mut out[4..])?;
+                frame(AFFECTED_POINT_CODE, length, out)
+            }
+            Part::Address(tag, address, others) => {
+                let length = address.encode_as(tag, others, &mut out[4..])?;
+                frame(tag, length, out)
+            }
         }
     }
 }
 
-// What parts take on the wire together. The refusals of each in order.
+// What parts take on the wire together; an absent one takes nothing. The refusals of each in order.
 pub fn run_length(parts: &[Option<Part<'_>>]) -> Result<usize, Refusal>
     ensures { outcome_of result ≡ mapped (λ os. fit64 (length os)) (run_written parts.now) }
 {
     let mut total = 0usize;
     for part in parts {
-        total = total.saturating_add(part_length(*part)?);
+        if let Some(part) = part {
+            total = total.saturating_add(part.length()?);
+        }
     }
     Ok(total)
-}
-
-// Writes a part, for which there is room.
-fn put_part(part: Option<Part<'_>>, out: &mut [u8]) -> Result<usize, Refusal>
-    requires { Placeable (part_written part.now) (length out.old) }
-    ensures { delivered (outcome_of result) out.new ≡ deliver (part_written part.entry) out.old }
-{
-    match part {
-        None => Ok(0),
-        Some(Part::Number(tag, n)) => parameter::encode(tag, &n.to_be_bytes(), out),
-        Some(Part::Octets(tag, octets)) => parameter::encode(tag, octets, out),
-        Some(Part::Codes(codes)) => {
-            let length = pack_affected_point_codes(codes, &mut out[4..])?;
-            parameter::frame(AFFECTED_POINT_CODE, length, out)
-        }
-        Some(Part::Address(tag, address, others)) => {
-            let length = address.encode_as(tag, others, &mut out[4..])?;
-            parameter::frame(tag, length, out)
-        }
-    }
 }
 
 // Writes parts, for which there is room.
@@ -79,7 +82,9 @@ fn put_run(parts: &[Option<Part<'_>>], out: &mut [u8]) -> Result<usize, Refusal>
 {
     let mut at = 0;
     for part in parts {
-        at += put_part(*part, &mut out[at..])?;
+        if let Some(part) = part {
+            at += part.put(&mut out[at..])?;
+        }
     }
     Ok(at)
 }

@@ -1,34 +1,21 @@
--- `pieces::run_length` meets its contract.
-use mathlib.Core.Path.{refl}
-use native.Mathlib.Omega.{arith}
-use Rattle.pieces.specs.Parts.{part_params}
-use Rattle.pieces.proofs.Placing.{part_small, run_sum}
+-- `pieces::run_length` meets its contract: the loop has measured the first parts.
+use mathlib.Core.Path.{refl, sym, ap, ◌∙◌}
+use lib.ListN.{length}
+use Rattle.std.proofs.lemmas.Result.{err_from_is_err_and}
+use Rattle.std.specs.Prelude.{Option}
+use Rattle.bcd.specs.Outcome.{mapped}
+use Rattle.pieces.specs.Parts.{given_written}
+use Rattle.pieces.specs.declared.Part.{Part}
+use Rattle.pieces.proofs.Running.{measured_more, measured_stopped}
 use Rattle.pieces.proofs.run_length.Goals as goal
+use Rattle.pieces.proofs.run_length.Goals.{in-Some+in_ok-length, in_default}
 
-pub overflow_add-result : goal.overflow_add-result
-overflow_add-result c =
-    omega (arith, part_small c.args.«data».now c.args.codes.now c.args.first _ c.in-Count.ensures, part_small c.args.«data».now c.args.codes.now c.args.second _ c.in-Count-part_length.ensures)
+pub returns-in_err-length : goal.returns-in_err-length
+returns-in_err-length c =
+    let p = err_from_is_err_and c.from_residual.result c.from_residual.ensures.1 in
+    rw (p.1, p.2)
+    (measured_stopped c.loop-part.invariant _ _ _ c.loop-part-test.true
+    (c.in_err-length.ensures ∙ ap (λ (part : Option Part). mapped length (given_written part)) (sym c.in-Some.is)))
 
-pub overflow_add-result-in-Count-part_length-2 : goal.overflow_add-result-in-Count-part_length-2
-overflow_add-result-in-Count-part_length-2 c =
-    omega (arith, part_small c.args.«data».now c.args.codes.now c.args.first _ c.in-Count.ensures, part_small c.args.«data».now c.args.codes.now c.args.second _ c.in-Count-part_length.ensures, part_small c.args.«data».now c.args.codes.now c.args.third _ c.in-Count-part_length-2.ensures)
-
-pub returns-in-Refused : goal.returns-in-Refused
-returns-in-Refused c =
-    run_sum (part_params c.args.first c.args.«data».now c.args.codes.now) (part_params c.args.second c.args.«data».now c.args.codes.now) (part_params c.args.third c.args.«data».now c.args.codes.now) _ _ _
-    c.in-Refused.ensures refl refl
-
-pub returns-in-Refused-part_length : goal.returns-in-Refused-part_length
-returns-in-Refused-part_length c =
-    run_sum (part_params c.args.first c.args.«data».now c.args.codes.now) (part_params c.args.second c.args.«data».now c.args.codes.now) (part_params c.args.third c.args.«data».now c.args.codes.now) _ _ _
-    c.in-Count.ensures c.in-Refused-part_length.ensures refl
-
-pub returns-in-Refused-part_length-2 : goal.returns-in-Refused-part_length-2
-returns-in-Refused-part_length-2 c =
-    run_sum (part_params c.args.first c.args.«data».now c.args.codes.now) (part_params c.args.second c.args.«data».now c.args.codes.now) (part_params c.args.third c.args.«data».now c.args.codes.now) _ _ _
-    c.in-Count.ensures c.in-Count-part_length.ensures c.in-Refused-part_length-2.ensures
-
-pub returns-in-Count-part_length-2 : goal.returns-in-Count-part_length-2
-returns-in-Count-part_length-2 c =
-    run_sum (part_params c.args.first c.args.«data».now c.args.codes.now) (part_params c.args.second c.args.«data».now c.args.codes.now) (part_params c.args.third c.args.«data».now c.args.codes.now) _ _ _
-    c.in-Count.ensures c.in-Count-part_length.ensures c.in-Count-part_length-2.ensures
+pub loop-part-preserved : goal.loop-part-preserved
+loop-part-preserved c = elim c.match-part.branch [ in-Some+in_ok-length w ↦ ? | in_default w ↦ ? ]

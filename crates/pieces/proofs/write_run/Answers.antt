@@ -1,13 +1,31 @@
 -- `pieces::write_run` meets its contract.
-use Rattle.bcd.proofs.Outcomes.{deliver_too_long, deliver-passed_on}
-use Rattle.pieces.proofs.Placing.{placeable}
+use Rattle.std.proofs.lemmas.Result.{err_from_is_err_and}
+use Rattle.bcd.proofs.Outcomes.{deliver_too_long}
+use Rattle.parameter.proofs.Running.{sum_large, sum_exact, sum-writable, sum_refused}
+use Rattle.pieces.specs.Parts.{run_written}
+use Rattle.pieces.proofs.Running.{placeable}
 use Rattle.pieces.proofs.write_run.Goals as goal
 
+pub returns-in_err-total : goal.returns-in_err-total
+returns-in_err-total c =
+    let p = err_from_is_err_and c.from_residual.result c.from_residual.ensures.1 in
+    rw (p.1, p.2) (sum_refused (run_written c.args.parts.now) _ _ c.args.out.now c.in_err-total.ensures)
+
+pub returns-then-total-gt1048576 : goal.returns-then-total-gt1048576
+returns-then-total-gt1048576 c = sum_large (run_written c.args.parts.now) _ c.in_ok-total.ensures c.args.out.now c.if-total-gt1048576.true
+
 pub returns-then-out-total : goal.returns-then-out-total
-returns-then-out-total c = deliver_too_long _ _ c.args.out.now c.in-Count.ensures c.if-out-total.true
+returns-then-out-total c =
+    let o = run_written c.args.parts.now in
+    rw (sum-writable o _ c.in_ok-total.ensures c.if-total-gt1048576.false)
+    (deliver_too_long o _ c.args.out.now (sum_exact o _ c.in_ok-total.ensures c.if-total-gt1048576.false) c.if-out-total.true)
 
 pub put_run-requires : goal.put_run-requires
-put_run-requires c = placeable _ _ _ c.in-Count.ensures c.if-out-total.false
+put_run-requires c =
+    let o = run_written c.args.parts.now in
+    placeable o _ _ (sum_exact o _ c.in_ok-total.ensures c.if-total-gt1048576.false) c.if-out-total.false
 
-pub returns-in-Refused : goal.returns-in-Refused
-returns-in-Refused c = deliver-passed_on _ _ _ c.args.out.now c.in-Refused.ensures
+pub returns : goal.returns
+returns c =
+    let o = run_written c.args.parts.now in
+    rw (sum-writable o _ c.in_ok-total.ensures c.if-total-gt1048576.false) c.put_run.ensures

@@ -1,12 +1,5 @@
--- `pieces::point_codes::list_codes` meets its contract: the loop has stored the first i codes.
-use Prim.Native.Nat.{◌≤◌, ◌-◌}
-use lib.ListN.{take}
-use Rattle.bcd.proofs.Writing.{Begun}
-use Rattle.pieces.specs.PointCodes.{codes_in}
+-- `pieces::point_codes::list_codes` meets its contract.
 use Rattle.pieces.proofs.point_codes.list_codes.Given as goal
 
-abbrev pub invariant-loop-i : goal.invariant-loop-i
-invariant-loop-i l = (l.i ≤ l.n) × Begun l.initial.out (take l.i (codes_in l.value)) l.out
-
-abbrev pub decreases-loop-i : goal.decreases-loop-i
-decreases-loop-i l = l.n - l.i
+abbrev pub invariant-loop-code : goal.invariant-loop-code
+invariant-loop-code l = ?

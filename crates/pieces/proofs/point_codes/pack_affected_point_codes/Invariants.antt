@@ -1,12 +1,5 @@
--- `pieces::point_codes::pack_affected_point_codes` meets its contract: the loop has written the first i codes.
-use Prim.Native.Nat.{◌≤◌, ◌-◌}
-use lib.ListN.{take}
-use Rattle.bcd.proofs.Writing.{Begun}
-use Rattle.pieces.specs.PointCodes.{codes_octets}
+-- `pieces::point_codes::pack_affected_point_codes` meets its contract.
 use Rattle.pieces.proofs.point_codes.pack_affected_point_codes.Given as goal
 
-abbrev pub invariant-loop-i : goal.invariant-loop-i
-invariant-loop-i l = (l.i ≤ l.n) × Begun l.initial.out (codes_octets (take l.i l.pcs)) l.out
-
-abbrev pub decreases-loop-i : goal.decreases-loop-i
-decreases-loop-i l = l.n - l.i
+abbrev pub invariant-loop-octets : goal.invariant-loop-octets
+invariant-loop-octets l = ?

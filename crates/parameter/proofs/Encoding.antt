@@ -76,28 +76,24 @@ put-delivered p n d out h e room put =
 module _ (tag n : ℕ) (v out : List ℕ) (l : length v ≡ n) (room : padded_length n ≤ length out) where
   -- the padding after it
   pub pad_behind :
-      (d last : List ℕ)
+      (d last : List ℕ) (end : ℕ)
       → Begun out (two tag ++ two (n + 4) ++ v) d
-      → last ≡ replicate (length (mid_of (n + 4) ((n + 4 + 3) / 4 * 4 - (n + 4)) d)) 0
-      → Begun out (param_octets (record { tag = tag; value = v })) (put_mid (n + 4) ((n + 4 + 3) / 4 * 4 - (n + 4)) d last)
+      → end ≡ padded_length n
+      → last ≡ replicate (end - (n + 4)) 0
+      → Begun out (param_octets (record { tag = tag; value = v })) (put_mid (n + 4) (end - (n + 4)) d last)
   unfolding param_octets
-  pad_behind d last b e =
+  pad_behind d last end b e zeros =
       let c : 4 + n ≡ n + 4 = omega arith in
+      let same : end ≡ (n + 4 + 3) / 4 * 4 = omega (arith, e) in
       let k = (n + 4 + 3) / 4 * 4 - (n + 4) in
-      let lent : length (mid_of (n + 4) k d) ≡ k = simp (length-take, length-drop) (omega (arith, b.same)) in
-      let all : last ≡ replicate k 0 = e ∙ ap (λ (i : ℕ). replicate i 0) lent in
-      rw (all, l, c) (extend_all (replicate k 0) (n + 4) k b (simp length-append (omega arith)) (omega arith) (length-replicate k 0))
+      rw (zeros, same, l, c) (extend_all (replicate k 0) (n + 4) k b (simp length-append (omega arith)) (omega arith) (length-replicate k 0))
 
   -- the tag and the length before it
   pub head_first : (d : List ℕ) → d ≡ two tag ++ drop 2 out → Begun out (two tag) d
   head_first d e = begin out (two tag) d (omega arith) e
 
-  pub head_second :
-      (d last : List ℕ)
-      → Begun out (two tag) d
-      → last ≡ two (n + 4) ++ drop 2 (mid_of 2 (length d - 2) d)
-      → Begun out (two tag ++ two (n + 4)) (put_mid 2 (length d - 2) d last)
-  head_second d last b e = extend (two (n + 4)) last 2 (length d - 2) b refl (omega arith) (omega arith) e
+  pub head_second : (d last : List ℕ) → Begun out (two tag) d → last ≡ two (n + 4) → Begun out (two tag ++ two (n + 4)) (put_mid 2 2 d last)
+  head_second d last b e = rw e (extend_all (two (n + 4)) 2 2 b refl (omega arith) refl)
 
   -- it stands behind the tag and the length
   pub value-behind : (d : List ℕ) → v ≡ take n (drop 4 out) → Begun out (two tag ++ two (n + 4)) d → Begun out (two tag ++ two (n + 4) ++ v) d

@@ -1,16 +1,18 @@
 -- How far a walk has come: from a position, at another, with what is left of the definition.
-use Prim.Native.Nat.{ℕ, suc, ◌-◌, ◌≤◌, ◌<◌}
+use Prim.Native.Nat.{ℕ, suc, ◌+◌, ◌-◌, ◌≤◌, ◌<◌}
 use mathlib.Core.Path.{◌≡◌, refl, sym, ap, ◌∙◌}
+use mathlib.Core.Bool.{Bool, true, false}
 use mathlib.Core.Logic.{⊎_elim}
 use mathlib.Core.List.{List, [], ◌∷◌, ◌++◌, append_assoc, append-nil}
 use native.Mathlib.Omega.{arith}
-use borrow.Author.Tests.{leb-true}
-use lib.Dec.{leb}
+use borrow.Author.Tests.{leb-true, ltb-false}
+use lib.Dec.{leb, ltb}
 use lib.ListN.{length, length-append}
-use Rattle.bcd.specs.Outcome.{Outcome, accepted, refused, after, mapped, bounded, most}
+use Rattle.bcd.specs.Outcome.{Outcome, accepted, refused, pick, after, mapped, bounded, most}
 use Rattle.bcd.proofs.Outcomes.{never, demand_inv, le_or_lt, bounded-within, bounded_beyond}
 use Rattle.parameter.specs.declared.Place.{Place}
-use Rattle.parameter.specs.Walk.{Walked, ended, found, onward, step_at, steps, places}
+use Rattle.parameter.specs.Parameter.{two_at}
+use Rattle.parameter.specs.Walk.{Walked, ended, found, headed, onward, step_at, steps, places}
 use Rattle.parameter.proofs.Walking.{Found, step_inv}
 use Rattle.parameter.proofs.Structure.{places-steps}
 
@@ -44,6 +46,19 @@ module _ (xs : List ℕ) (at : ℕ) {w : Walked} (e : accepted w ≡ bounded xs 
 
   pub walk_step : step_at xs at ≡ accepted w
   walk_step = (demand_inv (leb (length xs) most) _ _ (step_at xs at) (sym e)).1
+
+-- What refuses has octets.
+pub walk_some : (xs : List ℕ) (at n : ℕ) (vs : List ℕ) → refused n vs ≡ bounded xs (step_at xs at) → 0 < length xs
+unfolding step_at
+walk_some xs at n vs e = ⊎_elim (λ h. some (ltb (length xs - at) 4) refl (e ∙ bounded-within xs (step_at xs at) h)) (λ h. omega arith) (le_or_lt (length xs) most)
+  where
+    some :
+        (t : Bool)
+        → ltb (length xs - at) 4 ≡ t
+        → refused n vs ≡ pick t (accepted ended) (headed (two_at xs at) (two_at xs (at + 2)) at (length xs - at))
+        → 0 < length xs
+    some true t e = absurd (never e)
+    some false t e = let h = ltb-false (length xs - at) 4 t in omega arith
 
 module _ (xs : List ℕ) (at : ℕ) {p : Place} {next : ℕ} (e : accepted (found p next) ≡ bounded xs (step_at xs at)) where
   pub walk_found : Found xs at p next

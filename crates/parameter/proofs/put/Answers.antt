@@ -1,10 +1,7 @@
 -- `parameter::put` meets its contract.
-use Prim.Native.Nat.{ℕ, ◌-◌}
-use mathlib.Core.Path.{ap, ◌∙◌}
-use mathlib.Core.List.{List, ◌++◌}
-use lib.ListN.{length, drop}
-use lib.Seq.{take-length}
-use borrow.Rule.Slice.PartMut.{mid_of}
+use Prim.Native.Nat.{◌-◌}
+use native.Mathlib.Omega.{arith}
+use lib.ListN.{length, drop, length-take, length-drop}
 use Rattle.parameter.proofs.InPlace.{surrounded}
 use Rattle.parameter.proofs.put.Goals as goal
 
@@ -12,5 +9,5 @@ pub returns : goal.returns
 returns c = let v = c.args.value.now in
     let out = c.args.out.now in
     surrounded c.args.tag v out _ _ c.requires.value_in_bounds
-    (c.copy.ensures.whole ?)
+    (c.copy.ensures.whole (omega (arith, c.requires.value_in_bounds, length-take (length out - 4) (drop 4 out), length-drop 4 out)))
     c.surround.ensures

@@ -4,7 +4,7 @@ use mathlib.Core.List.{List}
 use lib.ListN.{length}
 use mathlib.Core.Path.{◌≡◌, sym, ◌∙◌}
 use native.Mathlib.Omega.{arith}
-use Rattle.parameter.specs.Parameter.{two_at}
+use Rattle.parameter.specs.Parameter.{two_at, round_up}
 use Rattle.bcd.specs.Outcome.{Outcome, most, bounded}
 use Rattle.bcd.proofs.Outcomes.{bounded-within, bounded_beyond}
 use Rattle.parameter.specs.Walk.{Walked, step_at}
@@ -24,7 +24,21 @@ returns-then-length-lt4 c = let xs = c.args.bytes.now in
     within xs at _ (omega (arith, c)) (step_invalid xs at c.from_be_bytes-tag.result c.from_be_bytes-length.result (omega (arith, c)) c.from_be_bytes-tag.ensures (c.from_be_bytes-length.ensures ∙ second_two xs at) c.if-length-lt4.true)
 
 pub returns-then-left-l : goal.returns-then-left-l
-returns-then-left-l c = ?
+unfolding two_at
+returns-then-left-l c = let xs = c.args.bytes.now in
+    let at = c.args.self.at in
+    let tag = c.from_be_bytes-tag.ensures in
+    let len = c.from_be_bytes-length.ensures ∙ second_two xs at in
+    let left = c.saturating_sub-left.ensures in
+    within xs at _ (omega (arith, c)) (rw (c.from-l.ensures, left)
+    (step_beyond xs at c.from_be_bytes-tag.result c.from_be_bytes-length.result (omega (arith, c)) tag len c.if-length-lt4.false (omega (arith, c))))
 
 pub returns : goal.returns
-returns c = ?
+unfolding two_at
+returns c = let xs = c.args.bytes.now in
+    let at = c.args.self.at in
+    let tag = c.from_be_bytes-tag.ensures in
+    let len = c.from_be_bytes-length.ensures ∙ second_two xs at in
+    let next : c.next_multiple_of.result ≡ round_up c.from_be_bytes-length.result = omega (arith, c) in
+    within xs at _ (omega (arith, c)) (rw (c.from-l.ensures, next)
+    (step_found xs at c.from_be_bytes-tag.result c.from_be_bytes-length.result (omega (arith, c)) tag len c.if-length-lt4.false (omega (arith, c))))

@@ -1,5 +1,4 @@
 -- The definitions, in the order to read them. `Steps` holds what only contracts of private functions cite.
-pub mod Octets
 pub mod Accessors
 pub mod Screen
 pub mod Contexts

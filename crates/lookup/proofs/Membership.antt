@@ -1,75 +1,54 @@
 -- Several routing contexts together: yes exactly under document 02's conditions, and what one context compared with one number is.
-use Prim.Native.Nat.{ℕ, zero, suc, ◌+◌, ◌*◌, ◌%◌, ◌≤◌, ◌<◌}
-use mathlib.Core.Path.{◌≡◌, refl, sym, ap, ◌∙◌, subst}
+use Prim.Native.Nat.{ℕ, zero, suc, ◌+◌, ◌*◌, ◌/◌, ◌%◌, ◌≤◌, ◌<◌}
+use mathlib.Core.Path.{◌≡◌, refl, sym, ap, ap₂, ◌∙◌, subst}
 use mathlib.Core.Bool.{Bool, true, false, ◌&&◌, ◌||◌, and-true, and-false, or-false}
 use mathlib.Core.Logic.{◌↔◌}
 use Rattle.std.specs.Prelude.{Option, None, Some}
+use Rattle.std.specs.Int.{w32, from_be_bytes}
+use Rattle.std.specs.List.{list_any, list_all}
+use Rattle.std.specs.Simd.{first_chunks}
 use mathlib.Core.List.{List, [], ◌∷◌}
 use native.Mathlib.Omega.{arith}
 use native.Mathlib.Nat.{add-zero}
 use lib.Dec.{eqb, ltb}
 use lib.ListN.{length, get_or, drop, length-drop}
 use lib.Seq.{drop-length, get_or-drop, drop-drop}
-use borrow.Author.Tests.{eq-eqb, ne_eqb}
+use borrow.Author.Tests.{eq-eqb, lt-ltb}
 use Rattle.bcd.specs.Outcome.{Outcome, accepted, refused, mapped, All, every, among}
 use Rattle.bcd.proofs.Outcomes.{accepted_inj, never}
 use Rattle.bcd.proofs.Tests.{agree, and_iff, eqb_iff, ltb_iff, every_iff, every-same, among_iff}
 use Rattle.parameter.specs.declared.Place.{Place}
 use Rattle.parameter.specs.Parameter.{two_at, four_in}
 use Rattle.parameter.specs.Walk.{valued}
-use Rattle.parameter.specs.Table.{Table, table, room, rows, record_in, records, find_param}
+use Rattle.parameter.specs.Table.{Table, table, rows, record_in, records, find_param}
 use Rattle.parameter.proofs.Records.{find_outside}
 use Rattle.lookup.specs.Accessors.{of_four, read_at, first_read, routing_context}
 use Rattle.lookup.specs.Contexts.{contexts_of, all_in_set, all_in_set_at, contexts_in, Member, EveryMember, compared_with}
 
--- The number at a position, octet by octet, and the contexts from there on.
-pub four_at_lem : (v : List ℕ) (at : ℕ) → four_in (drop at v) ≡ (get_or v at 0 * 256 + get_or v (at + 1) 0) * 65536 + (get_or v (at + 2) 0 * 256 + get_or v (at + 3) 0)
-unfolding two_at
-four_at_lem v at = rw (get_or-drop at v 0 0, get_or-drop at v 1 0, get_or-drop at v 2 0, get_or-drop at v 3 0, add-zero) refl
+-- The numbers among others, as the library looks for one, and the contexts of groups of four, as it reads them.
+any_is_among : (n : ℕ) (ms : List ℕ) → list_any (λ m. eqb m n) ms ≡ among n ms
+any_is_among n [] = refl
+any_is_among n (m ∷ ms) = ap (λ b. eqb m n || b) (any_is_among n ms)
 
-contexts_front : (v : List ℕ) → 4 ≤ length v → contexts_of v ≡ four_in v ∷ contexts_of (drop 4 v)
+-- Whether a group of four octets is a context in the set.
+abbrev pub known : (set : List ℕ) → List ℕ → Bool
+known set group = list_any (λ m. eqb m (from_be_bytes w32 group)) set
+
+groups_all : (set : List ℕ) (k : ℕ) (v : List ℕ) → length v ≡ 4 * k → list_all (known set) (first_chunks 4 k v) ≡ every (λ n. among n set) (contexts_of v)
 unfolding contexts_of two_at
-contexts_front (a ∷ b ∷ c ∷ d ∷ v) h = refl
-contexts_front (a ∷ b ∷ c ∷ []) h = absurd (omega arith)
-contexts_front (a ∷ b ∷ []) h = absurd (omega arith)
-contexts_front (a ∷ []) h = absurd (omega arith)
-contexts_front [] h = absurd (omega arith)
+groups_all set zero [] h = refl
+groups_all set (suc k) (a ∷ b ∷ c ∷ d ∷ v) h =
+    let one : from_be_bytes w32 (a ∷ b ∷ c ∷ d ∷ []) ≡ four_in (a ∷ b ∷ c ∷ d ∷ []) = omega arith in
+    ap₂ ◌&&◌ (ap (λ n. list_any (λ m. eqb m n) set) one ∙ any_is_among (four_in (a ∷ b ∷ c ∷ d ∷ [])) set) (groups_all set k v (omega arith))
+groups_all set zero (a ∷ v) h = absurd (omega arith)
+groups_all set (suc k) (a ∷ b ∷ c ∷ []) h = absurd (omega arith)
+groups_all set (suc k) (a ∷ b ∷ []) h = absurd (omega arith)
+groups_all set (suc k) (a ∷ []) h = absurd (omega arith)
+groups_all set (suc k) [] h = absurd (omega arith)
 
-contexts_next : (v : List ℕ) (at : ℕ) → at + 4 ≤ length v → contexts_of (drop at v) ≡ four_in (drop at v) ∷ contexts_of (drop (at + 4) v)
-contexts_next v at h = contexts_front (drop at v) (rw (length-drop at v) (omega arith)) ∙ ap (λ (l : List ℕ). four_in (drop at v) ∷ contexts_of l) (drop-drop 4 at v)
-
--- The test of every value, from there on.
-abbrev pub each_in : (set : List ℕ) → List ℕ → Bool
-each_in set v = every (λ n. among n set) (contexts_of v)
-
-pub all_next :
-    (set v : List ℕ) (at : ℕ) (b : Bool)
-    → at + 4 ≤ length v
-    → b ≡ among (four_in (drop at v)) set
-    → each_in set (drop at v) ≡ (b && each_in set (drop (at + 4) v))
-all_next set v at b h e = rw (contexts_next v at h, e)
-
-pub all_end : (set v : List ℕ) (at : ℕ) → at ≡ length v → each_in set (drop at v) ≡ true
-unfolding contexts_of
-all_end set v at e = rw (e, drop-length v)
-
--- An unfinished group; a value that is not in the set; and whole groups that are.
-pub value_unfinished : (set v : List ℕ) → (length v % 4 ≡ 0 → ⊥) → false ≡ all_in_set set v
-value_unfinished set v h = rw (ne_eqb (length v % 4) 0 h) (sym (and-false (ltb 0 (length v))))
-
-pub value_missing : (set v : List ℕ) → each_in set v ≡ false → false ≡ all_in_set set v
-value_missing set v e = rw (e, and-false (eqb (length v % 4) 0)) (sym (and-false (ltb 0 (length v))))
-
-pub value-whole : (set v : List ℕ) → length v % 4 ≡ 0 → each_in set v ≡ true → ltb 0 (length v) ≡ all_in_set set v
-value-whole set v whole e = rw (eq-eqb (length v % 4) 0 whole, e) (sym (and-true (ltb 0 (length v))))
-
--- The answer, by what was found.
-pub contexts_found :
-    (values : List ℕ) (t : Table) (count : ℕ) (set : List ℕ) (o : Outcome (Option Place))
-    → o ≡ find_param values t count 0x0006
-    → mapped (all_in_set_at set values) o ≡ contexts_in values t count set
-unfolding contexts_in
-contexts_found values t count set o e = ap (mapped (all_in_set_at set values)) e
+-- A value of octets in whole groups.
+pub all_groups : (set v : List ℕ) → 0 < length v → length v % 4 ≡ 0 → list_all (known set) (first_chunks 4 (length v / 4) v) ≡ all_in_set set v
+all_groups set v some whole = rw (lt-ltb 0 (length v) some, eq-eqb (length v % 4) 0 whole) (groups_all set (length v / 4) v (omega arith))
 
 -- The values that octets list, and each four of them.
 all-members : (set v : List ℕ) → length v % 4 ≡ 0 → All (Member set) (contexts_of v) ↔ ((i : ℕ) → 4 * i < length v → Member set (four_in (drop (4 * i) v)))
@@ -210,5 +189,5 @@ pub worked_contexts :
     ∷ accepted false
     ∷ refused 15 []
     ∷ [])
-unfolding contexts_in contexts_of two_at find_param records room rows record_in
+unfolding contexts_in contexts_of two_at find_param records rows record_in
 worked_contexts = refl

@@ -11,20 +11,18 @@ use parameter::tags::ROUTING_CONTEXT;
 fn all_in_set(value: &[u8], set: &[u32]) -> bool
     ensures { result ≡ all_in_set set.now value.now }
 {
-    if value.len() % 4 != 0 {
+    let (groups, rest) = value.as_chunks::<4>();
+    if value.is_empty() || !rest.is_empty() {
         return false;
     }
-    for four in value.chunks_exact(4) {
-        let context = u32::from_be_bytes([four[0], four[1], four[2], four[3]]);
-        if !set.contains(&context) {
-            return false;
-        }
-    }
-    !value.is_empty()
+    groups
+        .iter()
+        .all(|&four| set.contains(&u32::from_be_bytes(four)))
 }
 
 // Whether each routing context that the first such parameter lists is in a set. No where there is none, or its value is no
 // positive multiple of four octets. 15.
+#[tactic(auto, unfolding(crate::specs::Contexts::contexts_in))]
 pub fn contexts_in(lent: Records<'_>, count: usize, set: &[u32]) -> Result<bool, Refusal>
     ensures { outcome_of result ≡ contexts_in lent.entry.values.now lent.entry.rows.now count set.now }
 {

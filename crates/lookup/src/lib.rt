@@ -37,28 +37,31 @@ fn four_at(values: &[u8], found: Option<Place>) -> Option<[u8; 4]>
 fn number_at(values: &[u8], found: Option<Place>) -> Option<u32>
     ensures { result ≡ read_at (of_four four_in) values.now found }
 {
-    Some(u32::from_be_bytes(four_at(values, found)?))
+    let four = four_at(values, found)?;
+    Some(u32::from_be_bytes(four))
 }
 
 // The last of them.
 fn octet_at(values: &[u8], found: Option<Place>) -> Option<u8>
     ensures { result ≡ read_at (of_four fourth) values.now found }
 {
-    Some(four_at(values, found)?[3])
+    let four = four_at(values, found)?;
+    Some(four[3])
 }
 
 // The last two of them.
 fn cause_at(values: &[u8], found: Option<Place>) -> Option<SccpCause>
     ensures { result ≡ read_at (of_four cause_in) values.now found }
 {
-    let four = four_at(values, found)?;
+    let [_, _, cause_type, cause_value] = four_at(values, found)?;
     Some(SccpCause {
-        cause_type: four[2],
-        cause_value: four[3],
+        cause_type,
+        cause_value,
     })
 }
 
 // The first four octets of the first parameter with a tag, as a number. 15.
+#[tactic(auto, unfolding(crate::specs::Accessors::first_read))]
 pub fn first_number(lent: Records<'_>, count: usize, tag: u16) -> Result<Option<u32>, Refusal>
     ensures { outcome_of result ≡ first_read (of_four four_in) tag lent.entry.values.now lent.entry.rows.now count }
 {
@@ -66,6 +69,7 @@ pub fn first_number(lent: Records<'_>, count: usize, tag: u16) -> Result<Option<
 }
 
 // Their last octet. 15.
+#[tactic(auto, unfolding(crate::specs::Accessors::first_read))]
 pub fn first_octet(lent: Records<'_>, count: usize, tag: u16) -> Result<Option<u8>, Refusal>
     ensures { outcome_of result ≡ first_read (of_four fourth) tag lent.entry.values.now lent.entry.rows.now count }
 {
@@ -73,6 +77,7 @@ pub fn first_octet(lent: Records<'_>, count: usize, tag: u16) -> Result<Option<u
 }
 
 // Their last two octets. 15.
+#[tactic(auto, unfolding(crate::specs::Accessors::first_read))]
 pub fn first_cause(lent: Records<'_>, count: usize, tag: u16) -> Result<Option<SccpCause>, Refusal>
     ensures { outcome_of result ≡ first_read (of_four cause_in) tag lent.entry.values.now lent.entry.rows.now count }
 {

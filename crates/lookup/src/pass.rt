@@ -47,9 +47,7 @@ pub(crate) fn first_of(lent: Records<'_>, count: usize) -> Result<[Option<Place>
             return Err(Refusal::OutsideSlice);
         }
         if let Some(place) = place_of(row.tag) {
-            if first[place].is_none() {
-                first[place] = Some(row);
-            }
+            first[place] = first[place].or(Some(row));
         }
     }
     Ok(first)

@@ -11,26 +11,26 @@ use borrow.Rule.Slice.PartMut.{mid_of, put_mid}
 use Rattle.bcd.specs.Outcome.{accepted, deliver}
 use Rattle.bcd.proofs.Outcomes.{deliver_fits}
 
-pub record Begun (out p d : List ℕ) : Type 0 where
+pub record Begun {A : Type 0} (out p d : List A) : Type 0 where
   pub holds : d ≡ p ++ drop (length p) out
   pub fits : length p ≤ length out
   pub same : length d ≡ length out
 
 -- q in front of the whole buffer
-pub begin : (out q d : List ℕ) → length q ≤ length out → d ≡ q ++ drop (length q) out → Begun out q d
+pub begin : {A : Type 0} (out q d : List A) → length q ≤ length out → d ≡ q ++ drop (length q) out → Begun out q d
 begin out q d h e = record { holds = e; fits = h; same = rw (e, length-append, length-drop) (omega arith) }
 
 -- nothing written yet
-pub untouched : (out : List ℕ) → Begun out [] out
+pub untouched : {A : Type 0} (out : List A) → Begun out [] out
 untouched out = begin out [] out (omega arith) refl
 
 -- one element stored behind what was written
-pub store : {out p d : List ℕ} (n v : ℕ) → Begun out p d → length p ≡ n → n < length out → Begun out (p ++ (v ∷ [])) (set d n v)
-store {out} {p} {d} n v b e h =
-    let t : drop (length p) out ≡ get_or out (length p) 0 ∷ drop (suc (length p)) out = drop-cons out (length p) 0 (omega arith) in
+pub store : {A : Type 0} {out p d : List A} (n : ℕ) (v : A) → Begun out p d → length p ≡ n → n < length out → Begun out (p ++ (v ∷ [])) (set d n v)
+store {A} {out} {p} {d} n v b e h =
+    let t : drop (length p) out ≡ get_or out (length p) v ∷ drop (suc (length p)) out = drop-cons out (length p) v (omega arith) in
     let l : length (p ++ (v ∷ [])) ≡ suc (length p) = rw length-append (omega arith) in
     begin out (p ++ (v ∷ [])) (set d n v) (rw l (omega arith))
-    (rw (l, b.holds, t, set_at p (get_or out (length p) 0) (drop (suc (length p)) out) v n e)
+    (rw (l, b.holds, t, set_at p (get_or out (length p) v) (drop (suc (length p)) out) v n e)
     (sym (append_assoc p (v ∷ []) (drop (suc (length p)) out))))
 
 -- the next element of a list that is written from its front

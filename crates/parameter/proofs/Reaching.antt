@@ -1,5 +1,5 @@
 -- How far a walk has come: from a position, at another, with what is left of the definition.
-use Prim.Native.Nat.{ℕ, suc, ◌+◌, ◌-◌, ◌≤◌, ◌<◌}
+use Prim.Native.Nat.{ℕ, suc, ◌+◌, ◌-◌, ◌*◌, ◌≤◌, ◌<◌}
 use mathlib.Core.Path.{◌≡◌, refl, sym, ap, ◌∙◌}
 use mathlib.Core.Bool.{Bool, true, false}
 use mathlib.Core.Logic.{⊎_elim}
@@ -9,7 +9,7 @@ use borrow.Author.Tests.{leb-true, ltb-false}
 use lib.Dec.{leb, ltb}
 use lib.ListN.{length, length-append}
 use Rattle.bcd.specs.Outcome.{Outcome, accepted, refused, pick, after, mapped, bounded, most}
-use Rattle.bcd.proofs.Outcomes.{never, demand_inv, le_or_lt, bounded-within, bounded_beyond}
+use Rattle.bcd.proofs.Outcomes.{never, mapped_inv, demand_inv, le_or_lt, bounded-within, bounded_beyond}
 use Rattle.parameter.specs.declared.Place.{Place}
 use Rattle.parameter.specs.Parameter.{two_at}
 use Rattle.parameter.specs.Walk.{Walked, ended, found, headed, onward, step_at, steps, places}
@@ -121,8 +121,59 @@ counted-within xs from n e =
 pub counted-places : (xs : List ℕ) (from n : ℕ) → accepted n ≡ mapped length (bounded xs (places xs from)) → accepted n ≡ mapped length (places xs from)
 counted-places xs from n e = e ∙ ap (mapped length) (bounded-within xs (places xs from) (counted-within xs from n e))
 
--- a walk by the iterator, past n parameters
+-- A walk by the iterator, past n parameters.
 pub record Passed (xs : List ℕ) (from n : ℕ) (left : List ℕ) (at : ℕ) : Type 0 where
   pub same : left ≡ xs
   pub reached : Reached xs from at
   pub counted : n ≡ length reached.done
+  pub few : 4 * n ≤ at
+
+abbrev pub passed_none : (xs : List ℕ) (from : ℕ) {left : List ℕ} (at : ℕ) → left ≡ xs → at ≡ from → Passed xs from 0 left at
+passed_none xs from at same e = record {
+  same = same;
+  reached = record { done = []; left = ap (places xs) (sym e) ∙ nothing-done (places xs at) };
+  counted = refl;
+  few = omega arith;
+}
+
+module _ {xs left : List ℕ} {from n at : ℕ} (w : Passed xs from n left at) where
+  pub passed_small : {p : Place} {next : ℕ} → accepted (found p next) ≡ bounded left (step_at left at) → n < most
+  passed_small e =
+      let step = rw (w.same) at e in
+      let f = walk_found xs at step in
+      omega (arith, w.few, f.least, f.within, walk_within xs at step)
+
+  abbrev pub passed_next :
+      {later : List ℕ} (p : Place) (next : ℕ)
+      → later ≡ left
+      → accepted (found p next) ≡ bounded left (step_at left at)
+      → Passed xs from (n + 1) later next
+  passed_next p next same e =
+      let step : accepted (found p next) ≡ bounded xs (step_at xs at) = rw (w.same) at e in
+      record {
+        same = same ∙ w.same;
+        reached = walk_more w.reached p next step;
+        counted = rw length-append (omega (arith, w.counted));
+        few = omega (arith, w.few, (walk_found xs at step).forward);
+      }
+
+  pub passed_end : accepted ended ≡ bounded left (step_at left at) → bounded xs (places xs from) ≡ accepted w.reached.done
+  passed_end e = walk_end w.reached (rw (w.same) at e)
+
+  pub passed_refused : (m : ℕ) (vs : List ℕ) → refused m vs ≡ bounded left (step_at left at) → bounded xs (places xs from) ≡ refused m vs
+  passed_refused m vs e = walk_refused w.reached m vs (rw (w.same) at e)
+
+  -- Where parameters were counted, no more come than were counted.
+  pub passed_room :
+      (count : ℕ) {later : List ℕ} (p : Place) (next : ℕ)
+      → accepted count ≡ mapped length (bounded xs (places xs from))
+      → later ≡ left
+      → accepted (found p next) ≡ bounded left (step_at left at)
+      → n < count
+  passed_room count p next known same e =
+      let w' = passed_next p next same e in
+      let all = counted-places xs from count known ∙ ap (mapped length) w'.reached.left in
+      let (qs, front, l) = mapped_inv length (mapped (λ qs. w'.reached.done ++ qs) (places xs next)) (sym all) in
+      let (rest, behind, j) = mapped_inv (λ qs. w'.reached.done ++ qs) (places xs next) front in
+      let sum : length w'.reached.done + length rest ≡ length qs = sym (length-append w'.reached.done rest) ∙ ap length j in
+      omega (arith, w'.counted, sum, l)

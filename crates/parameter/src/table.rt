@@ -27,10 +27,13 @@ fn fill(bytes: &[u8], from: usize, rows: &mut [Place])
     requires { accepted (length rows.old) ≡ mapped length (bounded bytes.now (places bytes.now from)) }
     ensures { accepted rows.new ≡ bounded bytes.now (places bytes.now from) }
 {
-    for (row, place) in rows.iter_mut().zip(Parameters::new(bytes, from)) {
-        if let Ok(place) = place {
-            *row = place;
-        }
+    let mut n = 0;
+    for place in Parameters::new(bytes, from) {
+        let Ok(place) = place else {
+            return;
+        };
+        rows[n] = place;
+        n += 1;
     }
 }
 

@@ -1,11 +1,11 @@
 -- A part of a message: what it takes, and its value written at the fifth octet of a buffer and framed there.
 use Prim.Native.Nat.{ℕ, ◌-◌, ◌*◌, ◌≤◌, ◌<◌}
 use mathlib.Core.Path.{◌≡◌, refl, sym, ap, ◌∙◌}
-use mathlib.Core.List.{List, [], ◌∷◌}
+use mathlib.Core.List.{List, [], ◌∷◌, ◌++◌}
 use mathlib.Core.Logic.{⊎_elim}
 use native.Mathlib.Omega.{arith}
 use lib.Dec.{leb}
-use lib.ListN.{length, length-take, length-drop}
+use lib.ListN.{length, take, drop, length-append, length-take, length-drop}
 use borrow.Author.Tests.{leb-true}
 use borrow.Rule.Slice.PartMut.{mid_of, put_mid}
 use Rattle.bcd.specs.Outcome.{Outcome, accepted, refused, after, mapped, deliver}
@@ -82,10 +82,31 @@ module _ (tag : ℕ) (o : Outcome (List ℕ)) (out : List ℕ) (h : Placeable (a
     abbrev held : List ℕ
     held = put_mid 4 (length out - 4) out last
 
+    placed : last ≡ there.value ++ drop (length there.value) lent
+    placed = deliver_buffer there.value lent fits put
+
+    held_length : length held ≡ length out
+    held_length =
+        let l : length last ≡ length lent = rw (placed, length-append, length-drop) (omega (arith, fits)) in
+        simp (length-append, length-take, length-drop) (omega (arith, l, lent_length out 4, there.room))
+
     -- Framed there, it is delivered.
     pub value_put :
         (n : ℕ) {b : Outcome ℕ} {d : List ℕ}
         → accepted n ≡ a
         → record { answer = b; buffer = d } ≡ deliver (frame_param tag n held) held
         → record { answer = b; buffer = d } ≡ deliver (as_param tag o) out
-    value_put n {b} {d} is k = ?
+    value_put n {b} {d} is k =
+        let w = there.value in
+        let p = param tag w in
+        let l : n ≡ length w = accepted_inj (is ∙ answer_known) in
+        let room : padded_length n ≤ length held = omega (arith, there.room, held_length, l) in
+        let small : n ≤ most_value = omega (arith, there.size, l) in
+        let framed = param_octets (param tag (take n (drop 4 held))) in
+        let size : length framed ≡ padded_length n = octets-length (param tag (take n (drop 4 held))) ∙ ap padded_length (framed-length n held room) in
+        let told : b ≡ accepted (length framed) =
+        deliver_answer framed held (omega (arith, size, room)) (k ∙ ap (λ (o : Outcome (List ℕ)). deliver o held) (frame_known tag n held small room)) in
+        let begun = framed-there tag w out last d there.size there.room placed (k ∙ ap (λ (n : ℕ). deliver (frame_param tag n held) held) l) in
+        ap (λ (b : Outcome ℕ). record { answer = b; buffer = d }) told
+        ∙ delivered (length framed) begun (omega (arith, size, l, octets-length p))
+        ∙ ap (λ (o : Outcome (List ℕ)). deliver o out) (sym (ap (as_param tag) there.known ∙ encode_within p there.size))

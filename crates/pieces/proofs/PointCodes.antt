@@ -7,11 +7,11 @@ use native.Mathlib.Numerals.{add-one}
 use borrow.Author.Tests.{le-leb, lt-leb, leb-true}
 use borrow.Rule.Slice.PartMut.{mid_of, put_mid}
 use lib.Dec.{leb}
-use lib.ListN.{length, get_or, set, take, drop, length-append}
-use lib.Seq.{take-suc, length-take-le}
+use lib.ListN.{length, get_or, set, take, drop, length-append, length-drop}
+use lib.Seq.{take-suc, take_all, length-take-le}
 use Rattle.bcd.specs.Outcome.{accepted, refused, most, delivered}
 use Rattle.bcd.proofs.Outcomes.{accepted_inj, demand_inv, bounded-within, bounded_beyond, deliver_refused}
-use Rattle.bcd.proofs.Writing.{Begun, extend}
+use Rattle.bcd.proofs.Writing.{Begun, untouched, extend_all, store_next}
 use Rattle.bcd.proofs.Writing.{delivered as begun-delivered}
 use Rattle.pieces.specs.PointCodes.{low24, code_octets, codes_octets, most_codes, pack_codes, codes_in, unpack_codes, store_codes}
 
@@ -52,16 +52,6 @@ packed_back codes os e =
     let same : codes_octets codes ≡ os = accepted_inj one in
     rw (← same) (bounded-within (codes_octets codes) _ (rw (codes-length codes) (omega arith)) ∙ ap accepted (codes_back codes))
 
-pub code-stored :
-    (code : ℕ) (out : List ℕ)
-    → 4 ≤ length out
-    → set (set (set (set out 0 0) 1 (code / 65536 % 256)) 2 (code / 256 % 256)) 3 (code % 256) ≡ code_octets code ++ drop 4 out
-code-stored code (a ∷ b ∷ c ∷ d ∷ r) h = refl
-code-stored code (a ∷ b ∷ c ∷ []) h = absurd (omega arith)
-code-stored code (a ∷ b ∷ []) h = absurd (omega arith)
-code-stored code (a ∷ []) h = absurd (omega arith)
-code-stored code [] h = absurd (omega arith)
-
 codes-append : (xs ys : List ℕ) → codes_octets (xs ++ ys) ≡ codes_octets xs ++ codes_octets ys
 unfolding codes_octets
 codes-append [] ys = refl
@@ -76,16 +66,18 @@ pub codes_next :
     {out d : List ℕ} (codes last : List ℕ) (i k : ℕ)
     → Begun out (codes_octets (take i codes)) d
     → i < length codes
-    → 4 * i + k ≤ length out
-    → 4 ≤ k
-    → last ≡ code_octets (get_or codes i 0) ++ drop 4 (mid_of (4 * i) k d)
+    → 4 * length codes ≤ length out
+    → k ≡ 4
+    → last ≡ code_octets (get_or codes i 0)
     → Begun out (codes_octets (take (i + 1) codes)) (put_mid (4 * i) k d last)
-codes_next {out} {d} codes last i k b h f room e =
+codes_next {out} {d} codes last i k b h room four e =
     let t : take (i + 1) codes ≡ take i codes ++ (get_or codes i 0 ∷ []) = rw add-one (take-suc codes i 0 h) in
     let same : codes_octets (take (i + 1) codes) ≡ codes_octets (take i codes) ++ code_octets (get_or codes i 0) =
     ap codes_octets t ∙ codes-append (take i codes) (get_or codes i 0 ∷ []) ∙ ap (λ l. codes_octets (take i codes) ++ l) (codes_one (get_or codes i 0)) in
+    let place : length (codes_octets (take i codes)) ≡ 4 * i = codes-length (take i codes) ∙ ap (λ n. 4 * n) (length-take-le i codes (omega arith)) in
     subst (λ (p : List ℕ). Begun out p (put_mid (4 * i) k d last)) (sym same)
-    (extend (code_octets (get_or codes i 0)) last (4 * i) k b (codes-length (take i codes) ∙ ap (λ n. 4 * n) (length-take-le i codes (omega arith))) f room e)
+    (subst (λ (q : List ℕ). Begun out (codes_octets (take i codes) ++ code_octets (get_or codes i 0)) (put_mid (4 * i) k d q)) (sym e)
+    (extend_all (code_octets (get_or codes i 0)) (4 * i) k b place (omega arith) (sym four)))
 
 -- The codes in octets: how many, and each by its place.
 pub codes_in_length : (xs : List ℕ) → length (codes_in xs) ≡ length xs / 4
@@ -96,21 +88,61 @@ codes_in_length (m ∷ a ∷ []) = refl
 codes_in_length (m ∷ []) = refl
 codes_in_length [] = refl
 
-abbrev code_in : List ℕ → ℕ → ℕ
-code_in xs at = get_or xs (at + 1) 0 * 65536 + get_or xs (at + 2) 0 * 256 + get_or xs (at + 3) 0
+-- The code of a chunk of four octets, and the codes behind it.
+abbrev pub chunk_code : List ℕ → ℕ
+chunk_code x = get_or x 1 0 * 65536 + get_or x 2 0 * 256 + get_or x 3 0
 
-pub codes_in_at : (xs : List ℕ) (i : ℕ) → 4 * i + 3 < length xs → get_or (codes_in xs) i 0 ≡ code_in xs (4 * i)
+codes_chunk : (x rest : List ℕ) → length x ≡ 4 → codes_in (x ++ rest) ≡ chunk_code x ∷ codes_in rest
 unfolding codes_in
-codes_in_at (m ∷ a ∷ b ∷ c ∷ xs) zero h = refl
-codes_in_at (m ∷ a ∷ b ∷ c ∷ xs) (suc i) h =
-    codes_in_at xs i (omega arith) ∙ sym (rw (next 1, next 2, next 3))
-  where
-    next : (k : ℕ) → get_or (m ∷ a ∷ b ∷ c ∷ xs) (4 * suc i + k) 0 ≡ get_or xs (4 * i + k) 0
-    next k = let e : 4 * suc i + k ≡ suc (suc (suc (suc (4 * i + k)))) = omega arith in ap (λ n. get_or (m ∷ a ∷ b ∷ c ∷ xs) n 0) e
-codes_in_at (m ∷ a ∷ b ∷ []) i h = absurd (omega arith)
-codes_in_at (m ∷ a ∷ []) i h = absurd (omega arith)
-codes_in_at (m ∷ []) i h = absurd (omega arith)
-codes_in_at [] i h = absurd (omega arith)
+codes_chunk (m ∷ a ∷ b ∷ c ∷ []) rest e = refl
+codes_chunk (m ∷ a ∷ b ∷ c ∷ d ∷ x) rest e = absurd (omega arith)
+codes_chunk (m ∷ a ∷ b ∷ []) rest e = absurd (omega arith)
+codes_chunk (m ∷ a ∷ []) rest e = absurd (omega arith)
+codes_chunk (m ∷ []) rest e = absurd (omega arith)
+codes_chunk [] rest e = absurd (omega arith)
+
+codes_end : (xs : List ℕ) → length xs < 4 → codes_in xs ≡ []
+unfolding codes_in
+codes_end (m ∷ a ∷ b ∷ c ∷ xs) h = absurd (omega arith)
+codes_end (m ∷ a ∷ b ∷ []) h = refl
+codes_end (m ∷ a ∷ []) h = refl
+codes_end (m ∷ []) h = refl
+codes_end [] h = refl
+
+-- What stands at a place of a list, and behind it.
+behind : (i x : ℕ) (xs ys : List ℕ) → x ∷ xs ≡ drop i ys → (i < length ys) × (get_or ys i 0 ≡ x) × (xs ≡ drop (suc i) ys)
+behind zero x xs (y ∷ ys) e = (omega arith, cc, cc)
+behind (suc i) x xs (y ∷ ys) e = let (h, k, l) = behind i x xs ys e in (omega (arith, h), k, l)
+behind zero x xs [] e = absurd (let z : suc (length xs) ≡ 0 = ap length e in omega (arith, z))
+behind (suc i) x xs [] e = absurd (let z : suc (length xs) ≡ 0 = ap length e in omega (arith, z))
+
+-- The first i codes of a value are stored, and the chunks left hold the others.
+pub record Listed (value out rest d : List ℕ) (i : ℕ) : Type 0 where
+  pub left : codes_in rest ≡ drop i (codes_in value)
+  pub begun : Begun out (take i (codes_in value)) d
+
+pub listed_start : (value out : List ℕ) → Listed value out value out 0
+listed_start value out = record { left = refl; begun = untouched out }
+
+module _ {value out rest d : List ℕ} {i : ℕ} (k : Listed value out rest d i) where
+  pub listed_next :
+      (j n v : ℕ) (x last : List ℕ)
+      → j ≡ i
+      → n ≡ i + 1
+      → length value / 4 ≤ length out
+      → rest ≡ x ++ last
+      → length x ≡ 4
+      → v ≡ chunk_code x
+      → Listed value out last (set d j v) n
+  listed_next j n v x last at more room e l s =
+      let (h, here, rest) = behind i (chunk_code x) (codes_in last) (codes_in value) (sym (codes_chunk x last l) ∙ ap codes_in (sym e) ∙ k.left) in
+      let b = store_next (codes_in value) i k.begun h (omega (arith, codes_in_length value)) in
+      rw (at, more, s, ← here) (record { left = rw add-one rest; begun = b })
+
+  pub listed_all : length rest < 4 → Begun out (codes_in value) d
+  listed_all h =
+      let none : length (drop i (codes_in value)) ≡ 0 = ap length (sym k.left ∙ codes_end rest h) in
+      rw (take_all i (codes_in value) (omega (arith, none, length-drop i (codes_in value)))) at k.begun
 
 -- Codes stored in a table: refused, too many, or stored.
 pub store_refused : (n : ℕ) (vs held : List ℕ) → delivered (refused n vs) held ≡ store_codes (refused n vs) held

@@ -1,7 +1,7 @@
 -- Octets that are written one behind the other, and how far the elements of a list have been measured or written.
 use Prim.Native.Nat.{ℕ, ◌+◌, ◌-◌, ◌≤◌, ◌<◌}
 use mathlib.Core.Path.{◌≡◌, refl, sym, ap, ◌∙◌}
-use mathlib.Core.List.{List, [], ◌++◌}
+use mathlib.Core.List.{List, [], ◌++◌, append-nil}
 use native.Mathlib.Omega.{arith}
 use lib.ListN.{length, get_or, take, length-append, length-take, length-drop}
 use lib.Seq.{take_all}
@@ -118,6 +118,25 @@ module _ {A : Type 0} {f : A → Outcome (List ℕ)} {xs : List A} {out d : List
         begun = w.begun;
         place = w.place ∙ ap (λ (n : ℕ). at + n) (sym l);
       }
+
+  -- nothing is written of an element that is nothing
+  pub running_none : (x : A) → i < length xs → f (get_or xs i x) ≡ accepted [] → Running f xs out d (i + 1) at
+  running_none x h e = record {
+    octets = r.octets;
+    so_far = each_more f xs i x r.octets [] h r.so_far e ∙ ap accepted (append-nil r.octets);
+    begun = r.begun;
+    place = r.place;
+  }
+
+  -- no element is refused
+  pub running_accepts :
+      (x : A) (n : ℕ) (vs last : List ℕ)
+      → i < length xs
+      → record { answer = refused n vs; buffer = last } ≡ deliver (f (get_or xs i x)) (mid_of at (length d - at) d)
+      → ⊥
+  running_accepts x n vs last h e =
+      let (os, k, room) = running_next x h in
+      never (wrote at (f (get_or xs i x)) os r.begun r.place k room e).count
 
   pub running_reach : at ≤ length d
   running_reach = omega (arith, r.place, r.begun.fits, r.begun.same)

@@ -6,8 +6,8 @@ pub mod point_codes;
 ghost use Rattle.std.specs.Prelude.{◌≡◌, length};
 ghost use Rattle.bcd.specs.Outcome.{after, mapped, fit64, delivered, deliver};
 ghost use Rattle.bcd.specs.Answers.{outcome_of};
-ghost use Rattle.parameter.specs.Parameter.{writable};
-ghost use Rattle.pieces.specs.Parts.{part_written, run_written, Placeable};
+ghost use Rattle.parameter.specs.Parameter.{encode_param, writable};
+ghost use Rattle.pieces.specs.Parts.{number, part_written, run_written, Placeable};
 
 use address::SuaAddress;
 use address::encode::encoded_length;
@@ -24,6 +24,13 @@ pub enum Part<'a> {
     Octets(u16, &'a [u8]),
     Codes(&'a [u32]),
     Address(u16, &'a SuaAddress, Records<'a>),
+}
+
+// Writes a number as a parameter. 14.
+fn put_number(tag: u16, n: u32, out: &mut [u8]) -> Result<usize, Refusal>
+    ensures { delivered (outcome_of result) out.new ≡ deliver (encode_param (number tag n)) out.old }
+{
+    encode(tag, &n.to_be_bytes(), out)
 }
 
 impl<'a> Part<'a> {
@@ -48,7 +55,7 @@ impl<'a> Part<'a> {
         ensures { delivered (outcome_of result) out.new ≡ deliver (part_written self.entry) out.old }
     {
         match self {
-            Part::Number(tag, n) => encode(tag, &n.to_be_bytes(), out),
+            Part::Number(tag, n) => put_number(tag, n, out),
             Part::Octets(tag, octets) => encode(tag, octets, out),
             Part::Codes(codes) => {
                 let length = pack_affected_point_codes(codes, &mut out[4..])?;

@@ -24,9 +24,9 @@ pub fn pack_affected_point_codes(pcs: &[u32], out: &mut [u8]) -> Result<usize, R
     if out.len() < length {
         return Err(Refusal::OutputTooSmall(length));
     }
-    for (octets, pc) in out.chunks_exact_mut(4).zip(pcs) {
+    for (i, pc) in pcs.iter().enumerate() {
         let [_, high, middle, low] = pc.to_be_bytes();
-        octets.copy_from_slice(&[0, high, middle, low]);
+        out[4 * i..4 * i + 4].copy_from_slice(&[0, high, middle, low]);
     }
     Ok(length)
 }
@@ -40,8 +40,8 @@ pub fn list_codes(value: &[u8], out: &mut [u32]) -> Result<usize, Refusal>
     if out.len() < n {
         return Err(Refusal::TableTooSmall(n));
     }
-    for (code, octets) in out.iter_mut().zip(value.chunks_exact(4)) {
-        *code = u32::from_be_bytes([0, octets[1], octets[2], octets[3]]);
+    for (i, octets) in value.chunks_exact(4).enumerate() {
+        out[i] = u32::from_be_bytes([0, octets[1], octets[2], octets[3]]);
     }
     Ok(n)
 }

@@ -1,6 +1,6 @@
 -- `pieces::write_run` meets its contract.
-use Rattle.std.proofs.lemmas.Result.{err_from_is_err_and}
 use Rattle.bcd.proofs.Outcomes.{deliver_too_long}
+use Rattle.bcd.proofs.Results.{exit}
 use Rattle.parameter.proofs.Running.{sum_large, sum_exact, sum-writable, sum_refused}
 use Rattle.pieces.specs.Parts.{run_written}
 use Rattle.pieces.proofs.Running.{placeable}
@@ -8,8 +8,7 @@ use Rattle.pieces.proofs.write_run.Goals as goal
 
 pub returns-in_err-total : goal.returns-in_err-total
 returns-in_err-total c =
-    let p = err_from_is_err_and c.from_residual.result c.from_residual.ensures.1 in
-    rw (p.1, p.2) (sum_refused (run_written c.args.parts.now) _ _ c.args.out.now c.in_err-total.ensures)
+    rw (exit _ _ c.from_residual.ensures.1) (sum_refused (run_written c.args.parts.now) _ _ c.args.out.now c.in_err-total.ensures)
 
 pub returns-then-total-gt1048576 : goal.returns-then-total-gt1048576
 returns-then-total-gt1048576 c = sum_large (run_written c.args.parts.now) _ c.in_ok-total.ensures c.args.out.now c.if-total-gt1048576.true

@@ -26,6 +26,10 @@ pub mapped_inv : {A B : Type 0} {b : B} (f : A → B) (o : Outcome A) → mapped
 mapped_inv f (accepted a) e = (a, refl, accepted_inj e)
 mapped_inv f (refused n vs) e = absurd (never e)
 
+pub mapped_refused : {A B : Type 0} (f : A → B) (o : Outcome A) (n : ℕ) (vs : List ℕ) → refused n vs ≡ mapped f o → o ≡ refused n vs
+mapped_refused f (accepted a) n vs e = absurd (never (e))
+mapped_refused f (refused m ws) n vs e = let a : m ≡ n = cc in let b : ws ≡ vs = cc in rw (a, b)
+
 pub mapped-mapped : {A B C : Type 0} (g : B → C) (f : A → B) (o : Outcome A) → mapped g (mapped f o) ≡ mapped (λ a. g (f a)) o
 mapped-mapped g f (accepted a) = refl
 mapped-mapped g f (refused n vs) = refl

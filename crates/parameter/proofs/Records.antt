@@ -2,7 +2,9 @@
 use Prim.Native.Nat.{ℕ, zero, suc, ◌+◌, ◌≤◌, ◌<◌}
 use mathlib.Core.Path.{◌≡◌, refl, sym, ap, ap₂, ◌∙◌}
 use mathlib.Core.Bool.{Bool, true, false, ◌&&◌}
-use Rattle.std.specs.Prelude.{None, Some}
+use denote.Ref.{Bor}
+use Rattle.std.specs.Prelude.{Option, None, Some, option_map, option_copied}
+use Rattle.std.specs.List.{find}
 use mathlib.Core.List.{List, [], ◌∷◌, ◌++◌, map}
 use native.Mathlib.Omega.{arith}
 use lib.Dec.{leb, eqb}
@@ -11,6 +13,7 @@ use lib.Seq.{length-take-le}
 use borrow.Author.Tests.{le-leb, lt-leb, leb-true, leb-false}
 use Rattle.bcd.specs.Outcome.{Outcome, accepted, refused, pick, each, All, every}
 use Rattle.bcd.proofs.Outcomes.{accepted_inj, demand_inv, each_inv, each-cons, all_at}
+use Rattle.bcd.proofs.Tests.{cond_is_pick}
 use Rattle.parameter.specs.declared.Place.{Place}
 use Rattle.parameter.specs.Parameter.{Param}
 use Rattle.parameter.specs.Walk.{valued}
@@ -147,3 +150,12 @@ pub find_first :
     → find_param values t count tag ≡ accepted (first_with tag (take count t))
 unfolding find_param
 find_first values t count tag ps e = rw e
+
+-- The library's words for the first record with a tag, and for one that is copied.
+pub find_is_first : (tag : ℕ) (ps : List Place) → find (λ p. eqb p.tag tag) ps ≡ first_with tag ps
+find_is_first tag [] = refl
+find_is_first tag (p ∷ ps) = cond_is_pick (eqb p.tag tag) (Some p) (find (λ p. eqb p.tag tag) ps) ∙ ap (pick (eqb p.tag tag) (Some p)) (find_is_first tag ps)
+
+pub copied_is_map : {A : Type 0} (o : Option (Bor A)) → option_copied o ≡ option_map (λ x. x.now) o
+copied_is_map None = refl
+copied_is_map (Some x) = refl

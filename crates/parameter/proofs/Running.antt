@@ -8,16 +8,16 @@ use lib.Seq.{take_all}
 use borrow.Author.Tests.{le-leb, lt-leb}
 use borrow.Rule.Slice.PartMut.{mid_of, put_mid}
 use Rattle.bcd.specs.Outcome.{Outcome, accepted, refused, after, mapped, each, most, fit64, deliver}
-use Rattle.bcd.proofs.Outcomes.{accepted_inj, all_at, never, each_more, each_stopped, each-front, mapped_inv, after_inv, deliver_refused}
+use Rattle.bcd.proofs.Outcomes.{accepted_inj, all_at, never, each_more, each_stopped, each-front, mapped_inv, mapped_refused, after_inv, deliver_refused}
 use Rattle.bcd.proofs.Writing.{Begun, untouched, extend, delivered}
 use Rattle.parameter.specs.declared.Place.{Place}
-use Rattle.parameter.specs.Parameter.{Param, param, padded_length, param_octets, most_value, encode_param, encode_params, writable, Sized}
+use Rattle.parameter.specs.Parameter.{Param, param, padded_length, param_octets, most_value, encode_param, encode_params, wire_length, writable, Sized}
 use Rattle.parameter.specs.Walk.{valued}
 use Rattle.parameter.specs.Table.{Table, records}
 use Rattle.parameter.proofs.Records
-use Rattle.parameter.proofs.Records.{nowhere, no_param, Held, held-length, held_inside, held-param, held-value}
+use Rattle.parameter.proofs.Records.{nowhere, no_param, Held, held-length, value-length, held_inside, held-param, held-value}
 use Rattle.parameter.proofs.RoundTrip.{octets-length, encode_inv}
-use Rattle.parameter.proofs.Encoding.{encode_within, encode_beyond}
+use Rattle.parameter.proofs.Encoding.{wire_encode, wire_inv, encode_within}
 
 -- the first i parameters are measured
 pub record Measured (ps : List Param) (i total : ℕ) : Type 0 where
@@ -40,13 +40,30 @@ module _ {ps : List Param} {i total : ℕ} (m : Measured ps i total) where
         sum = rw (length-append m.octets (param_octets p), octets-length p) (omega (arith, m.sum));
       }
 
-  pub measured_stopped :
-      i < length ps → most_value < length (get_or ps i no_param).value
-      → each encode_param ps ≡ refused 10 ((get_or ps i no_param).tag ∷ length (get_or ps i no_param).value ∷ [])
-  measured_stopped h large = each_stopped encode_param ps i no_param m.octets 10 _ h m.so_far (encode_beyond (get_or ps i no_param) large)
-
   pub measured_all : length ps ≤ i → accepted total ≡ mapped (λ (os : List ℕ). fit64 (length os)) (each encode_param ps)
   measured_all h = let e = rw (take_all i ps h) at m.so_far in rw e (ap accepted m.sum)
+
+-- one record more is measured, or the first whose value is too long is refused
+module _ {values : List ℕ} {t : Table} {count i total : ℕ} (k : Held values t count) (m : Measured (map (valued values) (take count t)) i total) (h : i < count) where
+  abbrev row : Place
+  row = get_or (take count t) i nowhere
+
+  low : i < length (map (valued values) (take count t))
+  low = rw (held-length k) h
+
+  pub measured_row : (n next : ℕ) → accepted n ≡ wire_length row.tag row.length → next ≡ fit64 (total + n) → Measured (map (valued values) (take count t)) (i + 1) next
+  measured_row n next e sum =
+      let v = held-value k i h in
+      let w = wire_inv row.tag row.length n e in
+      measured_more m next low (rw v w.0) (rw v (omega (arith, w.1, sum)))
+
+  pub measured_refused : (n : ℕ) (vs : List ℕ) → refused n vs ≡ wire_length row.tag row.length → refused n vs ≡ mapped (λ (os : List ℕ). fit64 (length os)) (after (records values t count) (each encode_param))
+  measured_refused n vs e =
+      let p = held-param k i h in
+      let long : refused n vs ≡ wire_length row.tag (length (valued values row).value) = rw (value-length values row (held_inside k i h)) e in
+      let same : encode_param (get_or (map (valued values) (take count t)) i no_param) ≡ refused n vs =
+      ap encode_param p ∙ mapped_refused length (encode_param (valued values row)) n vs (long ∙ sym (wire_encode (valued values row))) in
+      rw (k.known, each_stopped encode_param (map (valued values) (take count t)) i no_param m.octets n vs low m.so_far same)
 
 -- the first i parameters are written
 pub record Running (ps : List Param) (out d : List ℕ) (i at : ℕ) : Type 0 where
@@ -156,13 +173,10 @@ module _ {values out d : List ℕ} {t : Table} {count total i at : ℕ} (y : Rea
   abbrev params : List Param
   params = map (valued values) (take count t)
 
-  abbrev row : Place
-  row = get_or (take count t) i nowhere
-
   below : i < length params
   below = rw (held-length y.held) h
 
-  pub running_turn : Turn values row d at
+  pub running_turn : Turn values (get_or (take count t) i nowhere) d at
   running_turn =
       let v = held-value y.held i h in
       record {
@@ -173,13 +187,13 @@ module _ {values out d : List ℕ} {t : Table} {count total i at : ℕ} (y : Rea
 
   pub running_next :
       (last value : List ℕ) (next : ℕ)
-      → value ≡ (valued values row).value
-      → next ≡ at + padded_length row.length
-      → last ≡ param_octets (param row.tag value) ++ drop (padded_length (length value)) (mid_of at (length d - at) d)
+      → value ≡ (valued values (get_or (take count t) i nowhere)).value
+      → next ≡ at + padded_length (get_or (take count t) i nowhere).length
+      → last ≡ param_octets (param (get_or (take count t) i nowhere).tag value) ++ drop (padded_length (length value)) (mid_of at (length d - at) d)
       → Running params out (put_mid at (length d - at) d last) (i + 1) next
   running_next last value next e n put =
       let v = held-value y.held i h in
-      let whole : param row.tag value ≡ get_or params i no_param = ap (param row.tag) e ∙ sym (held-param y.held i h) in
+      let whole : param (get_or (take count t) i nowhere).tag value ≡ get_or params i no_param = ap (param (get_or (take count t) i nowhere).tag) e ∙ sym (held-param y.held i h) in
       let put' = put ∙ ap (λ (q : Param). param_octets q ++ drop (padded_length (length q.value)) (mid_of at (length d - at) d)) whole in
       let n' : at + padded_length (length (get_or params i no_param).value) ≡ next = rw v (sym n) in
       subst (Running params out (put_mid at (length d - at) d last) (i + 1)) n'

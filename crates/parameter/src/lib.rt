@@ -4,7 +4,7 @@
 pub mod table;
 pub mod tags;
 
-ghost use Rattle.std.specs.Prelude.{◌≡◌, ◌++◌, ◌+◌, ◌*◌, ◌≤◌};
+ghost use Rattle.std.specs.Prelude.{◌≡◌, ◌++◌, ◌+◌, ◌*◌, ◌≤◌, leb};
 ghost use Rattle.std.specs.Iterator.{at_most};
 ghost use lib.ListN.{length, replicate, take, drop};
 ghost use Rattle.bcd.specs.Outcome.{accepted, bounded, delivered, deliver};
@@ -33,6 +33,13 @@ impl Place {
         let start = self.start.min(octets.len());
         let end = start + self.length.min(octets.len() - start);
         &octets[start..end]
+    }
+
+    // Whether the value lies inside so many octets.
+    fn ends_within(self, length: usize) -> bool
+        ensures { result ≡ leb (self.start + self.length) length }
+    {
+        self.start <= length && self.length <= length - self.start
     }
 }
 

@@ -83,13 +83,8 @@ impl<'a> Records<'a> {
         if self.rows.len() < count {
             return true;
         }
-        let n = self.values.len();
-        for &row in &self.rows[..count] {
-            if n < row.start || n - row.start < row.length {
-                return true;
-            }
-        }
-        false
+        let length = self.values.len();
+        !self.rows[..count].iter().all(|row| row.ends_within(length))
     }
 
     // What the parameters of the records take on the wire together. 15, then 10 in order.

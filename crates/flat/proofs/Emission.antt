@@ -5,11 +5,14 @@ use mathlib.Core.Bool.{Bool, true, false}
 use mathlib.Core.List.{List, [], ◌∷◌, ◌++◌, append_assoc, append-nil}
 use native.Mathlib.Omega.{arith}
 use lib.Dec.{ltb}
-use lib.ListN.{length, set, length-append, length-set}
+use native.Mathlib.Numerals.{add-one}
+use lib.ListN.{length, get_or, set, take, length-append, length-set}
+use lib.Seq.{take-suc}
 use borrow.Author.Tests.{lt-ltb, le-ltb}
 use Rattle.bcd.specs.Outcome.{pick}
 use Rattle.bcd.proofs.Writing.{Begun, store}
-use Rattle.flat.specs.Steps.Emitting.{stored, emit, Emitted}
+use Rattle.flat.specs.declared.writer.Writer.{Writer}
+use Rattle.flat.specs.Steps.Emitting.{stored, emit, Writes}
 
 pub stored-length : (d : List ℕ) (at v : ℕ) → length (stored d at v) ≡ length d
 stored-length d at v = go (ltb at (length d))
@@ -17,6 +20,12 @@ stored-length d at v = go (ltb at (length d))
     go : (t : Bool) → length (pick t (set d at v) d) ≡ length d
     go true = length-set d at v
     go false = refl
+
+pub stored_there : (d : List ℕ) (at v : ℕ) → at < length d → set d at v ≡ stored d at v
+stored_there d at v h = rw (lt-ltb at (length d) h) refl
+
+pub stored_past : (d : List ℕ) (at v : ℕ) → length d ≤ at → d ≡ stored d at v
+stored_past d at v h = rw (le-ltb at (length d) h) refl
 
 pub emit-length : (d : List ℕ) (at : ℕ) (os : List ℕ) → length (emit d at os) ≡ length d
 unfolding emit
@@ -30,43 +39,49 @@ emit-append d at (u ∷ us) vs =
     let e : at + 1 + length us ≡ at + suc (length us) = omega arith in
     emit-append (stored d at u) (at + 1) us vs ∙ ap (λ (n : ℕ). emit (emit (stored d at u) (at + 1) us) n vs) e
 
--- one octet
-pub emitted_there : (d : List ℕ) (at v : ℕ) → at < length d → Emitted d at (v ∷ []) (at + 1) (set d at v)
-unfolding emit
-emitted_there d at v h = record { behind = refl; held = rw (lt-ltb at (length d) h) }
-
-pub emitted_past : (d : List ℕ) (at v : ℕ) → length d ≤ at → Emitted d at (v ∷ []) (at + 1) d
-unfolding emit
-emitted_past d at v h = record { behind = refl; held = rw (le-ltb at (length d) h) }
-
 -- octets that the slice has no place for
 emit_past : (d : List ℕ) (at : ℕ) (os : List ℕ) → length d ≤ at → emit d at os ≡ d
 unfolding emit
 emit_past d at [] h = refl
 emit_past d at (v ∷ os) h = rw (le-ltb at (length d) h) (emit_past d (at + 1) os (omega arith))
 
-pub emitted_beyond : {end : ℕ} (d : List ℕ) (at : ℕ) (os : List ℕ) → length d ≤ at → end ≡ at + length os → Emitted d at os end d
-emitted_beyond d at os h e = record { behind = e; held = sym (emit_past d at os h) }
+pub writes_beyond : (a : Writer) (os : List ℕ) {n : ℕ} → length a.out.now ≤ a.at → n ≡ length os → Writes a os (record { out = a.out; at = a.at + n })
+writes_beyond a os h e = record { lent = refl; behind = ap (λ (k : ℕ). a.at + k) e; held = sym (emit_past a.out.now a.at os h) }
 
 -- nothing
-pub emitted_none : (d : List ℕ) (at : ℕ) → Emitted d at [] at d
+pub writes_none : (a : Writer) → Writes a [] a
 unfolding emit
-emitted_none d at = record { behind = omega arith; held = refl }
+writes_none a = record { lent = refl; behind = omega arith; held = refl }
 
 -- octets behind octets
-pub emitted_more : {d e f us vs : List ℕ} {at a b : ℕ} → Emitted d at us a e → Emitted e a vs b f → Emitted d at (us ++ vs) b f
-emitted_more {d} {e} {f} {us} {vs} {at} {a} {b} x y =
+pub writes_more : {a b c : Writer} {us vs : List ℕ} → Writes a us b → Writes b vs c → Writes a (us ++ vs) c
+writes_more {a} {b} {c} {us} {vs} x y =
     record {
+      lent = y.lent ∙ x.lent;
       behind = y.behind ∙ ap (λ (n : ℕ). n + length vs) x.behind ∙ rw (length-append us vs) (omega arith);
       held =
           y.held
-          ∙ ap (λ (l : List ℕ). emit l a vs) x.held
-          ∙ ap (λ (n : ℕ). emit (emit d at us) n vs) x.behind
-          ∙ sym (emit-append d at us vs);
+          ∙ ap (λ (l : List ℕ). emit l b.at vs) x.held
+          ∙ ap (λ (n : ℕ). emit (emit a.out.now a.at us) n vs) x.behind
+          ∙ sym (emit-append a.out.now a.at us vs);
     }
 
-pub emitted_same : {d last os : List ℕ} {at end : ℕ} → Emitted d at os end last → length last ≡ length d
-emitted_same {d} {last} {os} {at} {end} x = ap length x.held ∙ emit-length d at os
+pub writes_same : {a b : Writer} {os : List ℕ} → Writes a os b → length b.out.now ≡ length a.out.now
+writes_same {a} {b} {os} x = ap length x.held ∙ emit-length a.out.now a.at os
+
+-- the next octet of a list behind those before it
+pub writes_next :
+    {a b c : Writer} (os : List ℕ) (i : ℕ)
+    → i < length os
+    → Writes a (take i os) b
+    → c.out.ghost_name ≡ b.out.ghost_name
+    → c.at ≡ b.at + 1
+    → c.out.now ≡ stored b.out.now b.at (get_or os i 0)
+    → Writes a (take (i + 1) os) c
+unfolding emit
+writes_next {a} {b} {c} os i h x l e s =
+    let t : take (i + 1) os ≡ take i os ++ (get_or os i 0 ∷ []) = rw add-one (take-suc os i 0 h) in
+    subst (λ (l : List ℕ). Writes a l c) (sym t) (writes_more x (record { lent = l; behind = e; held = s }))
 
 -- where there is room for all, they stand behind what was written before
 pub emit_begun : {out p d : List ℕ} (at : ℕ) (os : List ℕ) → Begun out p d → length p ≡ at → at + length os ≤ length out → Begun out (p ++ os) (emit d at os)

@@ -55,6 +55,13 @@ decimal-short n = shorter n n (omega arith)
 pub space-first : space 0 ≡ []
 space-first = refl
 
+pub space_short : (i : ℕ) → length (space i) ≤ 1
+space_short i = told (ltb 0 i && eqb (i % 4) 0)
+  where
+    told : (t : Bool) → length (pick {A = List ℕ} t (0x20 ∷ []) []) ≤ 1
+    told true = omega arith
+    told false = omega arith
+
 pub space_inside : (i : ℕ) → (i % 4 ≡ 0 → ⊥) → space i ≡ []
 space_inside i h = told (ltb 0 i)
   where

@@ -1,18 +1,20 @@
 -- The program's line fits its buffer, whatever the input.
-use Prim.Native.Nat.{ℕ, ◌+◌, ◌/◌, ◌≤◌, ◌<◌, min}
+use Prim.Native.Nat.{ℕ, ◌+◌, ◌/◌, ◌≤◌, ◌<◌}
 use mathlib.Core.Path.{◌≡◌, refl, sym, ap, ◌∙◌, subst}
 use mathlib.Core.Logic.{⊎_elim}
 use mathlib.Core.List.{List, [], ◌∷◌, ◌++◌}
 use native.Mathlib.Omega.{arith}
 use lib.ListN.{length, take, drop, length-append, length-drop}
-use lib.Seq.{take_at, take_all}
-use borrow.Author.Tests.{le-leb, lt-leb}
+use lib.Seq.{take_at}
+use borrow.Author.Tests.{leb-true}
+use lib.Dec.{leb}
 use Rattle.bcd.specs.declared.error.Refusal.{Refusal}
 use Rattle.bcd.specs.declared.error.Refusal.TheVariants as R
-use Rattle.bcd.specs.Outcome.{Outcome, accepted, refused, Octets, Delivered, deliver}
+use Rattle.bcd.specs.Outcome.{Outcome, accepted, refused, Octets, Delivered, delivered, deliver}
 use Rattle.bcd.specs.Answers.{numbered, refusal_of}
 use Rattle.bcd.specs.Digits.{built_in}
-use Rattle.bcd.proofs.Outcomes.{accepted_inj, never, le_or_lt, bounded-within, deliver_refused, deliver-short, deliver_buffer, deliver_answer}
+use Rattle.bcd.proofs.Outcomes.{accepted_inj, never, le_or_lt, demand_inv, deliver_refused, deliver-short, deliver_buffer, deliver_answer}
+use Rattle.bcd.proofs.Writing.{untouched}
 use Rattle.parameter.specs.Table.{over}
 use Rattle.report.proofs.Reports.{number_small}
 use Rattle.parameter.specs.Parameter.{param_octets, run_octets, encode_param, two_at}
@@ -20,9 +22,11 @@ use Rattle.parameter.specs.Walk.{headed, step_at, steps, places, parameters}
 use Rattle.message.specs.Types.{from_class_type}
 use Rattle.message.specs.Message.{read_header, read_message, message_octets, write_message}
 use Rattle.form.specs.Form.{settled_param, settled}
-use Rattle.form.specs.Steps.Passes.{sum_of}
 use Rattle.form.proofs.Demand3.{form_room}
-use Rattle.flat.specs.Line.{decimal_in, decimal, words_from, form_text, form_line, refused_line, most_taken, most_printed, settled_input, line_of, program_line, Printed}
+use Rattle.flat.specs.Line.{decimal_in, decimal, words_from, form_text, refused_line, most_taken, most_printed, settled_input, line_of, program_line, Printed}
+use Rattle.flat.specs.declared.writer.Writer.{Writer}
+use Rattle.flat.specs.Steps.Emitting.{Writes}
+use Rattle.flat.proofs.Emission.{emit_begun}
 use Rattle.flat.proofs.Lines.{decimal_one, decimal-digits, decimal-short, words-length}
 use Rattle.flat.proofs.Printing.{form_length, refused_length}
 
@@ -47,7 +51,7 @@ pub record Written (o : Outcome (List ℕ)) (form : List ℕ) (n : ℕ) (g : Lis
   pub same : length g ≡ length form
   pub front : take n g ≡ octets
 
-pub written : (o : Outcome (List ℕ)) (n : ℕ) (form g : List ℕ) → record { answer = accepted n; buffer = g } ≡ deliver o form → Written o form n g
+pub written : (o : Outcome (List ℕ)) (n : ℕ) (form g : List ℕ) → delivered (accepted n) g ≡ deliver o form → Written o form n g
 written (refused m vs) n form g e = absurd (never (sym (ap (λ (d : Delivered). d.answer) (e ∙ sym (deliver_refused m vs form)))))
 written (accepted os) n form g e = ⊎_elim yes no (le_or_lt (length os) (length form))
   where
@@ -73,69 +77,49 @@ retold {m} {n} {ws} {vs} e = let a : m ≡ n = cc in let b : ws ≡ vs = cc in r
 unwritten :
     (o : Outcome (List ℕ)) (n : ℕ) (vs form g : List ℕ)
     → ((os : List ℕ) → o ≡ accepted os → length os ≤ length form)
-    → record { answer = refused n vs; buffer = g } ≡ deliver o form
+    → delivered (refused n vs) g ≡ deliver o form
     → o ≡ refused n vs
 unwritten (refused m ws) n vs form g h e = retold (ap (λ (d : Delivered). d.answer) (e ∙ sym (deliver_refused m ws form)))
 unwritten (accepted os) n vs form g h e = absurd (never (deliver_answer os form (h os refl) e))
 
--- the ways that `print` ends
-module _ (xs out d : List ℕ) (a : Outcome ℕ) (n : ℕ) (wide : most_printed ≤ length out) (k : n ≡ sum_of a) where
-  line_is : (l : List ℕ) → program_line xs ≡ l → length l ≤ most_printed → record { answer = a; buffer = d } ≡ deliver (accepted l) out → Printed xs out n d
+-- a line stored at the front of the buffer
+module _ (xs : List ℕ) {a b : Writer} (front : a.at ≡ 0) (wide : most_printed ≤ length a.out.now) where
+  line_is : (l : List ℕ) → program_line xs ≡ l → length l ≤ most_printed → Writes a l b → Printed xs a.out.now b.at b.out.now
   line_is l e h w =
-      let fits : length l ≤ length out = omega arith in
+      let z : 0 ≡ a.at = sym front in
+      let begun = emit_begun a.at l (untouched a.out.now) z (omega (arith, front)) in
       record {
-        count = k ∙ ap sum_of (deliver_answer l out fits w) ∙ ap length (sym e);
-        line = deliver_buffer l out fits w ∙ ap (λ (l : List ℕ). over l out) (sym e);
+        count = w.behind ∙ ap (λ (n : ℕ). n + length l) front ∙ ap length (sym e);
+        line = w.held ∙ begun.holds ∙ ap (λ (l : List ℕ). over l a.out.now) (sym e);
       }
 
-  pub line_large : most_taken < length xs → record { answer = a; buffer = d } ≡ deliver (accepted (refused_line 12)) out → Printed xs out n d
-  unfolding program_line settled_input
-  line_large h w = line_is (refused_line 12) (rw (lt-leb (length xs) most_taken h)) (refusal_fits (R.TooManyOctets (length xs))) w
-
-  module _ (small : length xs ≤ most_taken) (o : Octets xs) (form g : List ℕ) (room : most_taken ≤ length form) where
-    taken : settled_input xs ≡ settled built_in xs
+  module _ (o : Octets xs) (form g : List ℕ) (room : most_taken ≤ length form) where
+    form_small : (f : List ℕ) → settled_input xs ≡ accepted f → length f ≤ most_taken
     unfolding settled_input
-    taken = rw (le-leb (length xs) most_taken small)
-
-    form_small : (f : List ℕ) → settled built_in xs ≡ accepted f → length f ≤ most_taken
-    form_small f e = omega (arith, (form_room xs f o e).0)
+    form_small f e =
+        let d = demand_inv (leb (length xs) most_taken) _ _ (settled built_in xs) e in
+        omega (arith, leb-true (length xs) most_taken d.0, (form_room xs f o d.1).0)
 
     pub line_refused :
         (r : Refusal)
-        → record { answer = refusal_of r; buffer = g } ≡ deliver (settled built_in xs) form
-        → record { answer = a; buffer = d } ≡ deliver (accepted (refused_line (numbered r).0)) out
-        → Printed xs out n d
+        → delivered (refusal_of r) g ≡ deliver (settled_input xs) form
+        → Writes a (refused_line (numbered r).0) b
+        → Printed xs a.out.now b.at b.out.now
     unfolding program_line
     line_refused r s w =
-        let e = unwritten (settled built_in xs) _ _ form g (λ f h. omega (arith, form_small f h)) s in
-        line_is (refused_line (numbered r).0) (ap line_of (taken ∙ e)) (refusal_fits r) w
+        let e = unwritten (settled_input xs) _ _ form g (λ f h. omega (arith, form_small f h)) s in
+        line_is (refused_line (numbered r).0) (ap line_of e) (refusal_fits r) w
 
     pub line_formed :
-        (m : ℕ)
-        → record { answer = accepted m; buffer = g } ≡ deliver (settled built_in xs) form
-        → record { answer = a; buffer = d } ≡ deliver (form_line (take m g)) out
-        → Printed xs out n d
-    unfolding program_line form_line
-    line_formed m s w =
-        let f = written (settled built_in xs) m form g s in
+        (n : ℕ)
+        → delivered (accepted n) g ≡ deliver (settled_input xs) form
+        → Writes a (form_text (take n g)) b
+        → Printed xs a.out.now b.at b.out.now
+    unfolding program_line
+    line_formed n s w =
+        let f = written (settled_input xs) n form g s in
         let small = form_small f.octets f.whole in
-        let l : form_line (take m g) ≡ accepted (form_text f.octets) = ap form_line f.front ∙ bounded-within f.octets _ (omega arith) in
-        line_is (form_text f.octets) (ap line_of (taken ∙ f.whole)) (form_fits f.octets small) (w ∙ ap (λ (l : Outcome (List ℕ)). deliver l out) l)
-
--- a count beyond the octets there takes them all
-pub front_printed :
-    {out d : List ℕ} {r : ℕ} (n k : ℕ) (xs : List ℕ) (m : ℕ)
-    → m ≡ min n k
-    → length xs ≡ k
-    → Printed (take m xs) out r d
-    → Printed (take n xs) out r d
-front_printed {out} {d} {r} n k xs m e l p = subst (λ (ys : List ℕ). Printed ys out r d) same p
-  where
-    same : take m xs ≡ take n xs
-    same =
-        ⊎_elim (λ (h : n ≤ k). let i : m ≡ n = omega arith in ap (λ (i : ℕ). take i xs) i)
-        (λ (h : k < n). take_all m xs (omega arith) ∙ sym (take_all n xs (omega arith)))
-        (le_or_lt n k)
+        line_is (form_text f.octets) (ap line_of f.whole) (form_fits f.octets small) (rw f.front at w)
 
 -- the line lies in its buffer
 pub printed_fits : {xs out d : List ℕ} {n : ℕ} → Printed xs out n d → n ≤ length d

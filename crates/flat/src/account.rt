@@ -11,7 +11,7 @@ ghost use Rattle.address.specs.Address.{title_at};
 ghost use Rattle.address.specs.Steps.Kept.{kept_title, kept_code, kept_sub};
 ghost use Rattle.address.specs.Steps.Plan.{HeldIn, Read, places_in};
 ghost use Rattle.flat.specs.Account.{place_octets, marked, title_fields, address_account, param_account, account};
-ghost use Rattle.flat.specs.Steps.Emitting.{Emitted, Tried, listed, others_fields, parts_fields, Accounted};
+ghost use Rattle.flat.specs.Steps.Emitting.{Writes, Tried, listed, others_fields, parts_fields, Accounted};
 
 use crate::writer::Writer;
 use address::interpret::interpret;
@@ -28,7 +28,7 @@ impl<'a> Writer<'a> {
         requires start_bound { place.start < 2 ^ 32 }
         requires length_bound { place.length < 2 ^ 32 }
         requires at_bound { self.old.at ≤ 2 ^ 58 }
-        ensures { Emitted self.old (place_octets place) self.new }
+        ensures { Writes self.old (place_octets place) self.new }
     {
         if self.out.len() <= self.at {
             self.at += 10;
@@ -44,7 +44,7 @@ impl<'a> Writer<'a> {
         requires n_bound { n ≤ 255 }
         requires n_bound_2 { n ≤ 2 * length bytes.now }
         requires at_bound { self.old.at ≤ 2 ^ 59 }
-        ensures { Emitted self.old (digits_in built_in bytes.now n) self.new }
+        ensures { Writes self.old (digits_in built_in bytes.now n) self.new }
     {
         for i in 0..n {
             self.put(&[bcd::digit_in(bytes, i)]);
@@ -56,7 +56,7 @@ impl<'a> Writer<'a> {
         requires in_bounds { 8 ≤ length value.now }
         requires value_len_bound { length value.now ≤ most }
         requires at_bound { self.old.at ≤ 2 ^ 58 }
-        ensures { Emitted self.old (1 ∷ title_fields (title_at built_in value.now)) self.new }
+        ensures { Writes self.old (1 ∷ title_fields (title_at built_in value.now)) self.new }
     {
         let n = usize::from(value[4]).min(2 * (value.len() - 8));
         if self.out.len() <= self.at {
@@ -72,7 +72,7 @@ impl<'a> Writer<'a> {
         requires held_in { HeldIn value.now 8 kept }
         requires value_len_bound { length value.now ≤ most }
         requires at_bound { self.old.at ≤ 2 ^ 57 }
-        ensures { Emitted self.old (marked title_fields (kept_title built_in value.now kept)) self.new }
+        ensures { Writes self.old (marked title_fields (kept_title built_in value.now kept)) self.new }
     {
         match kept {
             Some(place) => self.title_there(place.value(value)),
@@ -84,7 +84,7 @@ impl<'a> Writer<'a> {
     fn code(&mut self, value: &[u8], kept: Option<Place>)
         requires held_in { HeldIn value.now 4 kept }
         requires at_bound { self.old.at ≤ 2 ^ 57 }
-        ensures { Emitted self.old (marked four (kept_code value.now kept)) self.new }
+        ensures { Writes self.old (marked four (kept_code value.now kept)) self.new }
     {
         match kept {
             Some(place) => {
@@ -99,7 +99,7 @@ impl<'a> Writer<'a> {
     fn ssn(&mut self, value: &[u8], kept: Option<Place>)
         requires held_in { HeldIn value.now 4 kept }
         requires at_bound { self.old.at ≤ 2 ^ 57 }
-        ensures { Emitted self.old (marked (λ (n : ℕ). n ∷ []) (kept_sub value.now kept)) self.new }
+        ensures { Writes self.old (marked (λ (n : ℕ). n ∷ []) (kept_sub value.now kept)) self.new }
     {
         match kept {
             Some(place) => self.put(&[1, place.value(value)[3]]),
@@ -112,7 +112,7 @@ impl<'a> Writer<'a> {
         requires read { Read value.now parts }
         requires value_bound { base + length value.now ≤ most }
         requires at_bound { self.old.at ≤ 2 ^ 57 }
-        ensures { Emitted self.old (listed base (places_in (places value.now 4))) self.new }
+        ensures { Writes self.old (listed base (places_in (places value.now 4))) self.new }
     {
         for place in Parameters::new(value, 4) {
             let Ok(place) = place else {
@@ -130,7 +130,7 @@ impl<'a> Writer<'a> {
         requires read { Read value.now parts }
         requires value_bound { base + length value.now ≤ most }
         requires at_bound { self.old.at ≤ 2 ^ 56 }
-        ensures { Emitted self.old (others_fields base value.now parts) self.new }
+        ensures { Writes self.old (others_fields base value.now parts) self.new }
     {
         let count = parts.other_count;
         if self.out.len() <= self.at {
@@ -148,7 +148,7 @@ impl<'a> Writer<'a> {
         requires read { Read value.now parts }
         requires value_bound { base + length value.now ≤ most }
         requires at_bound { self.old.at ≤ 2 ^ 55 }
-        ensures { Emitted self.old (parts_fields base value.now parts) self.new }
+        ensures { Writes self.old (parts_fields base value.now parts) self.new }
     {
         self.put(&[value[0], value[1], value[3] % 8]);
         self.title(value, parts.title);

@@ -4,7 +4,7 @@ ghost use Rattle.bcd.specs.Outcome.{delivered, deliver};
 ghost use Rattle.bcd.specs.Answers.{outcome_of, numbered};
 ghost use Rattle.flat.specs.Line.{decimal, hex, space, words, form_text, refused_line, most_taken, settled_input, Printed};
 ghost use Rattle.flat.specs.Line.{digit as Line·digit};
-ghost use Rattle.flat.specs.Steps.Emitting.{Emitted};
+ghost use Rattle.flat.specs.Steps.Emitting.{Writes};
 
 use crate::writer::Writer;
 use bcd::error::Refusal;
@@ -22,7 +22,7 @@ impl<'a> Writer<'a> {
     // Stores a number's decimal digits.
     fn decimal(&mut self, n: usize)
         requires { self.old.at + length (decimal n) ≤ 2 ^ 60 }
-        ensures { Emitted self.old (decimal n) self.new }
+        ensures { Writes self.old (decimal n) self.new }
     {
         if 9 < n {
             self.decimal(n / 10);
@@ -30,15 +30,23 @@ impl<'a> Writer<'a> {
         self.put(&[digit((n % 10) as u8)]);
     }
 
-    // Stores octets as words, with a space before each word but the first.
+    // Stores the space that stands before the octet at place i, if one does.
+    fn space(&mut self, i: usize)
+        requires { self.old.at < 2 ^ 60 }
+        ensures { Writes self.old (space i) self.new }
+    {
+        if 0 < i && i % 4 == 0 {
+            self.put(b" ");
+        }
+    }
+
+    // Stores octets as words.
     fn words(&mut self, octets: &[u8])
         requires { self.old.at + 3 * length octets.now ≤ 2 ^ 60 }
-        ensures { Emitted self.old (words octets.now) self.new }
+        ensures { Writes self.old (words octets.now) self.new }
     {
         for (i, &octet) in octets.iter().enumerate() {
-            if 0 < i && i % 4 == 0 {
-                self.put(b" ");
-            }
+            self.space(i);
             self.put(&[digit(octet / 16), digit(octet % 16)]);
         }
     }
@@ -47,7 +55,7 @@ impl<'a> Writer<'a> {
     fn form(&mut self, form: &[u8])
         requires form_bound { length form.now ≤ most_taken }
         requires at_bound { self.old.at ≤ 2 ^ 59 }
-        ensures { Emitted self.old (form_text form.now) self.new }
+        ensures { Writes self.old (form_text form.now) self.new }
     {
         self.put(b"(form ");
         self.decimal(form.len());
@@ -59,7 +67,7 @@ impl<'a> Writer<'a> {
     // Stores the line of a refusal.
     fn refused(&mut self, refusal: Refusal)
         requires { self.old.at ≤ 2 ^ 59 }
-        ensures { Emitted self.old (refused_line (numbered refusal).0) self.new }
+        ensures { Writes self.old (refused_line (numbered refusal).0) self.new }
     {
         self.put(b"(refused ");
         self.decimal(number(refusal));
@@ -68,6 +76,7 @@ impl<'a> Writer<'a> {
 }
 
 // The settled form of a message of at most 65,536 octets; more are 12.
+#[tactic(auto, unfolding(bcd::specs::Outcome::deliver, crate::specs::Line::settled_input))]
 fn settle(input: &[u8], form: &mut [u8]) -> Result<usize, Refusal>
     ensures { delivered (outcome_of result) form.new ≡ deliver (settled_input input.now) form.old }
 {
@@ -85,8 +94,13 @@ pub fn line(input: &[u8], out: &mut [u8; 147471]) -> usize
     let mut form = [0u8; 65536];
     let mut line = Writer { out, at: 0 };
     match settle(input, &mut form) {
-        Ok(n) => line.form(&form[..n]),
-        Err(refusal) => line.refused(refusal),
+        Ok(n) => {
+            line.form(&form[..n]);
+            line.at
+        }
+        Err(refusal) => {
+            line.refused(refusal);
+            line.at
+        }
     }
-    line.at
 }

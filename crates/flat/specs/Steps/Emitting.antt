@@ -21,15 +21,16 @@ unfoldable pub emit : List ℕ → (at : ℕ) → List ℕ → List ℕ
 emit d at [] = d
 emit d at (v ∷ os) = emit (stored d at v) (at + 1) os
 
--- Octets were stored: the position stands behind them, and the slice holds those that it has places for.
-pub record Emitted (a : Writer) (os : List ℕ) (b : Writer) : Type 0 where
+-- A writer before and after octets were stored: it holds the same slice, and its position stands behind them.
+pub record Writes (a : Writer) (os : List ℕ) (b : Writer) : Type 0 where
+  pub lent : b.out.ghost_name ≡ a.out.ghost_name
   pub behind : b.at ≡ a.at + length os
   pub held : b.out.now ≡ emit a.out.now a.at os
 
 -- The same for octets that may be refused: what was stored matters only where they are not.
 abbrev pub Tried : {A : Type 0} → Writer → Outcome (List ℕ) → Outcome A → Writer → Type 0
-Tried a o (accepted x) b = (os : List ℕ) × (o ≡ accepted os) × Emitted a os b
-Tried a o (refused n vs) b = o ≡ refused n vs
+Tried a o (accepted x) b = (os : List ℕ) × (o ≡ accepted os) × Writes a os b
+Tried a o (refused n vs) b = (o ≡ refused n vs) × (b.out.ghost_name ≡ a.out.ghost_name)
 
 -- The places of the others among sub-parameters, and the fields of an address from its parts.
 abbrev pub listed : (base : ℕ) → List Place → List ℕ

@@ -16,7 +16,7 @@ use lib.Seq.{drop-length, get_or-drop, drop-drop}
 use borrow.Author.Tests.{eq-eqb, lt-ltb}
 use Rattle.bcd.specs.Outcome.{Outcome, accepted, refused, mapped, All, every, among}
 use Rattle.bcd.proofs.Outcomes.{accepted_inj, never}
-use Rattle.bcd.proofs.Tests.{agree, and_iff, eqb_iff, ltb_iff, every_iff, every-same, among_iff}
+use Rattle.bcd.proofs.Tests.{any_is_among, agree, and_iff, eqb_iff, ltb_iff, every_iff, every-same, among_iff}
 use Rattle.parameter.specs.declared.Place.{Place}
 use Rattle.parameter.specs.Parameter.{two_at, four_in}
 use Rattle.parameter.specs.Walk.{valued}
@@ -24,11 +24,6 @@ use Rattle.parameter.specs.Table.{Table, table, rows, record_in, records, find_p
 use Rattle.parameter.proofs.Records.{find_outside}
 use Rattle.lookup.specs.Accessors.{of_four, read_at, first_read, routing_context}
 use Rattle.lookup.specs.Contexts.{contexts_of, all_in_set, all_in_set_at, contexts_in, Member, EveryMember, compared_with}
-
--- The numbers among others, as the library looks for one, and the contexts of groups of four, as it reads them.
-any_is_among : (n : ℕ) (ms : List ℕ) → list_any (λ m. eqb m n) ms ≡ among n ms
-any_is_among n [] = refl
-any_is_among n (m ∷ ms) = ap (λ b. eqb m n || b) (any_is_among n ms)
 
 -- Whether a group of four octets is a context in the set.
 abbrev pub known : (set : List ℕ) → List ℕ → Bool

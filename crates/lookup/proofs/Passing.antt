@@ -1,18 +1,20 @@
 -- One pass over the records: what it keeps for a tag is the first record with it.
-use Prim.Native.Nat.{ℕ, zero, suc, ◌≤◌, ◌<◌}
+use Prim.Native.Nat.{ℕ, zero, suc, ◌+◌, ◌≤◌, ◌<◌}
 use mathlib.Core.Path.{◌≡◌, refl, sym, ap, ap₂, ◌∙◌}
-use mathlib.Core.Bool.{Bool, true, false}
+use mathlib.Core.Bool.{Bool, true, false, ◌&&◌, and_assoc, and-false}
 use Rattle.std.specs.Prelude.{Option, None, Some, option_map}
 use Rattle.std.specs.Option.{option_or}
 use mathlib.Core.List.{List, [], ◌∷◌, ◌++◌, map}
 use lib.Dec.{eqb}
-use lib.ListN.{length, get_or, set, take}
-use lib.Seq.{take_all}
-use borrow.Author.Tests.{eqb-true}
-use Rattle.bcd.specs.Outcome.{accepted, refused, mapped, pick}
+use native.Mathlib.Numerals.{add-one}
+use lib.ListN.{length, get_or, set, take, drop}
+use lib.Seq.{take-suc, take_all, split_at}
+use borrow.Author.Tests.{eqb-true, le-leb, lt-leb}
+use Rattle.bcd.specs.Outcome.{accepted, refused, mapped, pick, every}
 use Rattle.parameter.specs.declared.Place.{Place}
+use Rattle.parameter.specs.Walk.{valued}
 use Rattle.parameter.specs.Table.{Table, records, first_with}
-use Rattle.parameter.proofs.Records.{Inside, records_inside}
+use Rattle.parameter.proofs.Records.{nowhere, inside, records_few, records-inside}
 use Rattle.lookup.specs.Steps.Pass.{wanted, place_among, first_of}
 
 -- One record more behind the others: it is the first with its tag where there was none.
@@ -71,19 +73,61 @@ module _ (p : Place) where
           ap₂ ◌∷◌ (same_first t ps e) (later ∙ ap (λ o. kept o p (firsts ts ps)) absent)
       go false e later = behind (place_among ts p.tag) _ _ _ _ (other_first t ps e) later
 
+-- Records that lie inside the values, one after the other.
+every_joined : {A : Type 0} (test : A → Bool) (xs ys : List A) → every test (xs ++ ys) ≡ (every test xs && every test ys)
+every_joined test [] ys = refl
+every_joined test (x ∷ xs) ys = ap (λ b. test x && b) (every_joined test xs ys) ∙ sym (and_assoc (test x) (every test xs) (every test ys))
+
+module _ (values : List ℕ) where
+  pub inside_more :
+      (ps : List Place) (i : ℕ)
+      → i < length ps
+      → every (inside values) (take i ps) ≡ true
+      → (get_or ps i nowhere).start + (get_or ps i nowhere).length ≤ length values
+      → every (inside values) (take (i + 1) ps) ≡ true
+  inside_more ps i h e l =
+      ap (every (inside values)) (rw add-one (take-suc ps i nowhere h))
+      ∙ every_joined (inside values) (take i ps) (get_or ps i nowhere ∷ [])
+      ∙ rw (e, le-leb _ _ l)
+
+  outside_found : (ps : List Place) (i : ℕ) → i < length ps → length values < (get_or ps i nowhere).start + (get_or ps i nowhere).length → every (inside values) ps ≡ false
+  outside_found ps i h l =
+      ap (every (inside values)) (split_at ps i nowhere h)
+      ∙ every_joined (inside values) (take i ps) (get_or ps i nowhere ∷ drop (suc i) ps)
+      ∙ rw (lt-leb _ _ l) (and-false (every (inside values) (take i ps)))
+
 -- What the pass answers: 15, or what it kept of all records.
 module _ (w : List ℕ) (values : List ℕ) (t : Table) (count : ℕ) where
-  pub pass_refused : records values t count ≡ refused 15 [] → refused 15 [] ≡ first_of w values t count
+  pass_refused : records values t count ≡ refused 15 [] → refused 15 [] ≡ first_of w values t count
   unfolding first_of
   pass_refused e = sym (ap (mapped (λ ps. firsts w (take count t))) e)
 
-  pub pass_whole :
-      (i : ℕ)
+  pub pass_few : length t < count → refused 15 [] ≡ first_of w values t count
+  pass_few h = pass_refused (records_few values t count h)
+
+  pub pass_outside :
+      (rows : List Place) (i : ℕ)
+      → rows ≡ take count t
       → count ≤ length t
-      → length (take count t) ≤ i
-      → Inside values (take count t) i
-      → accepted (firsts w (take i (take count t))) ≡ first_of w values t count
+      → i < length rows
+      → length values < (get_or rows i nowhere).start + (get_or rows i nowhere).length
+      → refused 15 [] ≡ first_of w values t count
+  pass_outside rows i e few h l =
+      pass_refused
+      (records-inside values t count few
+      ∙ ap (λ b. pick b (accepted (map (valued values) (take count t))) (refused 15 [])) (ap (every (inside values)) (sym e) ∙ outside_found values rows i h l))
+
+  pub pass_whole :
+      (rows : List Place) (i : ℕ)
+      → rows ≡ take count t
+      → count ≤ length t
+      → length rows ≤ i
+      → every (inside values) (take i rows) ≡ true
+      → accepted (firsts w (take i rows)) ≡ first_of w values t count
   unfolding first_of
-  pass_whole i few h inside =
-      ap (λ ps. accepted (firsts w ps)) (take_all i (take count t) h)
-      ∙ sym (ap (mapped (λ ps. firsts w (take count t))) (records_inside values t count i few h inside))
+  pass_whole rows i e few h k =
+      let whole : take i rows ≡ take count t = take_all i rows h ∙ e in
+      ap (λ ps. accepted (firsts w ps)) whole
+      ∙ sym (ap (mapped (λ ps. firsts w (take count t)))
+      (records-inside values t count few
+      ∙ ap (λ b. pick b (accepted (map (valued values) (take count t))) (refused 15 [])) (ap (every (inside values)) (sym whole) ∙ k)))

@@ -1,18 +1,20 @@
 -- The pass stops at a record that reaches outside; what it has kept at the end is of all records.
-use Rattle.std.proofs.Common.{◌≡◌, ◌-◌, ◌<◌, ◌≤◌, ◌+◌, ◌∙◌, refl, sym, ap, length, take, set, arith, get_or, List, [], ◌∷◌, ◌++◌}
+use Rattle.std.proofs.Common.{◌≡◌, ◌-◌, ◌<◌, ◌≤◌, ◌+◌, ◌∙◌, sym, ap, length, take, set, get_or, ℕ, List, [], ◌∷◌, ◌++◌, arith}
 use native.Mathlib.Numerals.{add-one}
 use lib.Seq.{take-suc}
 use Rattle.bcd.specs.Outcome.{accepted}
-use Rattle.parameter.proofs.Records.{nowhere, inside_more, records_few, records_outside}
+use Rattle.parameter.specs.declared.Place.{Place}
+use Rattle.parameter.proofs.Records.{nowhere}
 use Rattle.lookup.specs.Steps.Pass.{wanted, place_among}
-use Rattle.lookup.proofs.Passing.{kept, firsts, kept_more, wanted_different, pass_refused, pass_whole}
+use Rattle.lookup.proofs.Passing.{kept, firsts, kept_more, wanted_different, inside_more, pass_few, pass_outside, pass_whole}
 use Rattle.lookup.proofs.pass.first_of.Goals as goal
 use Rattle.lookup.proofs.pass.first_of.Goals.{then-n-row-via-then-n-row, then-n-row-via-else-n-row+then-n-row-2, in-Some-place_of, in_default-place_of}
 
+front : (t : List Place) (count : ℕ) → take (count - 0) t ≡ take count t
+front t count = let all : count - 0 ≡ count = omega arith in ap (λ n. take n t) all
+
 pub returns-in_default : goal.returns-in_default
-returns-in_default c =
-    pass_refused wanted c.args.lent.values.now c.args.lent.rows.now c.args.count
-    (records_few c.args.lent.values.now c.args.lent.rows.now c.args.count (omega (arith, c.in_default.ensures.lookup)))
+returns-in_default c = pass_few wanted c.args.lent.values.now c.args.lent.rows.now c.args.count (omega (arith, c.in_default.ensures.lookup))
 
 pub returns-then-n-row : goal.returns-then-n-row
 returns-then-n-row c =
@@ -23,15 +25,10 @@ returns-then-n-row c =
       | then-n-row-via-else-n-row+then-n-row-2 w ↦ omega (arith, w.if-n-row.false, w.if-n-row-2.true)
     ] in
     let ((low, few, range, long), any) = c.in-Some.ensures.lookup in
-    let all : c.args.count - 0 ≡ c.args.count = omega arith in
-    let front : c.in-Some.rows.now ≡ take c.args.count c.args.lent.rows.now = range ∙ ap (λ n. take n c.args.lent.rows.now) all in
-    pass_refused wanted values c.args.lent.rows.now c.args.count
-    (records_outside values c.args.lent.rows.now c.args.count c.loop-row.row-index p few
-    (rw front at c.loop-row-test.true) (rw front at c.loop-row.invariant.inside) (ap (λ ps. get_or ps c.loop-row.row-index nowhere) (sym front)) far)
+    pass_outside wanted values c.args.lent.rows.now c.args.count c.in-Some.rows.now c.loop-row.row-index (range ∙ front _ _) few c.loop-row-test.true far
 
 pub loop-row-preserved : goal.loop-row-preserved
 loop-row-preserved c =
-    let values = c.args.lent.values.now in
     let i = c.loop-row.row-index in
     let rows = c.in-Some.rows.now in
     let p = get_or rows i nowhere in
@@ -42,7 +39,7 @@ loop-row-preserved c =
       | in_default-place_of w ↦ w.first-is ∙ ap (λ o. kept o p c.loop-row.first) w.in_default-place_of.ensures
     ] in
     record {
-      inside = inside_more values rows i p c.loop-row-test.true c.loop-row.invariant.inside refl (omega (arith, c.if-n-row.false, c.if-n-row-2.false));
+      inside = inside_more c.args.lent.values.now rows i c.loop-row-test.true c.loop-row.invariant.inside (omega (arith, c.if-n-row.false, c.if-n-row-2.false));
       kept = now ∙ ap (kept (place_among wanted p.tag) p) c.loop-row.invariant.kept
           ∙ sym (ap (firsts wanted) more ∙ kept_more p wanted (take i rows) wanted_different);
     }
@@ -50,8 +47,6 @@ loop-row-preserved c =
 pub returns : goal.returns
 returns c =
     let ((low, few, range, long), any) = c.in-Some.ensures.lookup in
-    let all : c.args.count - 0 ≡ c.args.count = omega arith in
-    let front : c.in-Some.rows.now ≡ take c.args.count c.args.lent.rows.now = range ∙ ap (λ n. take n c.args.lent.rows.now) all in
     ap accepted c.loop-row.invariant.kept
-    ∙ rw front (pass_whole wanted c.args.lent.values.now c.args.lent.rows.now c.args.count c.loop-row.row-index few
-    (rw front at c.loop-row-test.false) (rw front at c.loop-row.invariant.inside))
+    ∙ pass_whole wanted c.args.lent.values.now c.args.lent.rows.now c.args.count c.in-Some.rows.now c.loop-row.row-index (range ∙ front _ _) few
+    c.loop-row-test.false c.loop-row.invariant.inside

@@ -1,6 +1,7 @@
 -- The records looked at so far lie inside, and the first of them with each tag is kept.
-use Rattle.std.proofs.Common.{◌≡◌, take}
-use Rattle.parameter.proofs.Records.{Inside}
+use Rattle.std.proofs.Common.{◌≡◌, true, take}
+use Rattle.bcd.specs.Outcome.{every}
+use Rattle.parameter.proofs.Records.{inside}
 use Rattle.lookup.specs.Steps.Pass.{wanted}
 use Rattle.lookup.proofs.Passing.{firsts}
 use Rattle.lookup.proofs.pass.first_of.Given as goal
@@ -8,6 +9,6 @@ use Rattle.lookup.proofs.pass.first_of.Given as goal
 abbrev pub invariant-loop-row : goal.invariant-loop-row
 invariant-loop-row l =
     record {
-      inside : Inside l.lent.values.now l.rows l.row-index;
+      inside : every (inside l.lent.values.now) (take l.row-index l.rows) ≡ true;
       kept : l.first ≡ firsts wanted (take l.row-index l.rows);
     }

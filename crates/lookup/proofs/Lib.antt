@@ -3,3 +3,4 @@ pub mod Passing
 pub mod Membership
 pub mod Accessing
 pub mod Addresses
+pub mod Screening

@@ -66,14 +66,17 @@ worked_destination =
 abbrev pub refused_with : (number : ℕ) → List ℕ → Table → Listed
 refused_with number vs held = listed (refused number vs) held
 
--- 15 in all seven.
-abbrev pub all_outside : (source destination : Table) → Handling
-all_outside source destination = record {
-  context = refused 15 [];
-  class = refused 15 [];
-  control = refused 15 [];
-  hops = refused 15 [];
-  cause = refused 15 [];
-  source = refused_with 15 [] source;
-  destination = refused_with 15 [] destination;
+-- One refusal in all seven, and 15.
+abbrev pub all_refused : (number : ℕ) → List ℕ → (source destination : Table) → Handling
+all_refused number vs source destination = record {
+  context = refused number vs;
+  class = refused number vs;
+  control = refused number vs;
+  hops = refused number vs;
+  cause = refused number vs;
+  source = refused_with number vs source;
+  destination = refused_with number vs destination;
 }
+
+abbrev pub all_outside : (source destination : Table) → Handling
+all_outside = all_refused 15 []

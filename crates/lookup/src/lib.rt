@@ -95,6 +95,7 @@ fn move_starts(base: usize, rows: &mut [Place])
 }
 
 // Reads the value that was found as an address. 7, then the address's.
+#[tactic(auto, unfolding(crate::specs::Accessors::address_found))]
 fn address_at(
     values: &[u8],
     found: Option<Place>,
@@ -103,7 +104,9 @@ fn address_at(
 ) -> Result<SuaAddress, Refusal>
     ensures { listed (outcome_of result) others.new ≡ address_found tag values.now (accepted found) others.old }
 {
-    let place = found.ok_or(Refusal::MissingParameter(tag))?;
+    let Some(place) = found else {
+        return Err(Refusal::MissingParameter(tag));
+    };
     let read = SuaAddress::decode(place.value(values), others);
     if let Ok(address) = &read {
         move_starts(place.start, &mut others[..address.other_count]);
@@ -112,6 +115,7 @@ fn address_at(
 }
 
 // Reads the first parameter with a tag as an address. 15, 7, then the address's.
+#[tactic(auto, unfolding(crate::specs::Accessors::address_found))]
 pub fn first_address(
     lent: Records<'_>,
     count: usize,

@@ -1,6 +1,7 @@
 // All handling fields of a message from one pass over its records.
 ghost use Rattle.std.specs.Prelude.{◌≡◌};
 ghost use Rattle.lookup.specs.Screen.{handling, screen_of};
+ghost use Rattle.lookup.specs.Steps.Pass.{refused_screen};
 
 use crate::pass::first_of;
 use crate::{SccpCause, address_at, cause_at, number_at, octet_at};
@@ -23,7 +24,9 @@ pub struct Screen {
 }
 
 // One refusal in every field.
-fn refused(r: Refusal) -> Screen {
+fn refused(r: Refusal) -> Screen
+    ensures { result ≡ refused_screen r }
+{
     Screen {
         routing_context: Err(r),
         protocol_class: Err(r),

@@ -53,8 +53,7 @@ module _ (A : Alphabet) (L : Lawful A) (cs : List ℕ) (i : ℕ) (h : i < length
   checked_more v good =
       let (small, same) = written_inv A L (get_or cs i 0) (v ∷ []) (sym good) in
       let one : nibble A (get_or cs i 0) ≡ v = cc in
-      let e : take (i + 1) cs ≡ take i cs ++ (get_or cs i 0 ∷ []) = rw add-one (take-suc cs i 0 h) in
-      (
+      let e : take (i + 1) cs ≡ take i cs ++ (get_or cs i 0 ∷ []) = rw add-one (take-suc cs i 0 h) in (
         omega arith,
         sym one,
         each_more (λ c. written c (A.half c)) cs i 0 _ _ h so_far (sym good ∙ ap accepted (sym same))

@@ -1,5 +1,6 @@
 -- What a call answers, in the terms of document 01, and what it leaves in a buffer that it was lent.
-use Rattle.std.specs.Prelude.{ℕ, ◌<◌, ◌-◌, ◌^◌, min, Bool, true, false, ◌&&◌, ◌||◌, List, [], ◌∷◌, ◌++◌, length, drop, leb, eqb}
+use Rattle.std.specs.List.{list_all}
+use Rattle.std.specs.Prelude.{ℕ, ◌<◌, ◌-◌, ◌^◌, min, Bool, true, false, ◌||◌, List, [], ◌∷◌, ◌++◌, length, drop, leb, eqb}
 
 -- A value, or one of document 01's refusals ('Refused because of ..'): its number and the values returned with it.
 pub data Outcome (A : Type 0) : Type 0 where
@@ -38,8 +39,7 @@ All P (x ∷ xs) = P x × All P xs
 
 -- Every element passes a test.
 abbrev pub every : {A : Type 0} → (A → Bool) → List A → Bool
-every test [] = true
-every test (x ∷ xs) = test x && every test xs
+every = list_all
 
 -- A number is among others, which may stand in any order and more than once.
 abbrev pub among : ℕ → List ℕ → Bool

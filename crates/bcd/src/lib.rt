@@ -117,15 +117,19 @@ pub fn encode_gt_digits(digits: &[u8], out: &mut [u8]) -> Result<usize, Refusal>
     Ok(n)
 }
 
-// The digit at place i, the low half of an octet first; beyond the octets a half octet of 0.
+// The half octet at place i, the low half of an octet first; beyond the octets 0.
+pub fn half_in(bytes: &[u8], i: usize) -> u8
+    ensures { result ≡ get_or (halves bytes.now) i 0 }
+{
+    let byte = bytes.get(i / 2).copied().unwrap_or(0);
+    if i % 2 == 0 { byte % 16 } else { byte / 16 }
+}
+
+// The digit at place i; beyond the octets that of a half octet of 0.
 pub fn digit_in(bytes: &[u8], i: usize) -> u8
     ensures { result ≡ built_in.char (get_or (halves bytes.now) i 0) }
 {
-    let byte = bytes.get(i / 2).copied().unwrap_or(0);
-    if i % 2 == 0 {
-        return nibble_to_char(byte % 16);
-    }
-    nibble_to_char(byte / 16)
+    nibble_to_char(half_in(bytes, i))
 }
 
 // Stores the first n digits.

@@ -1,6 +1,6 @@
 -- `bcd::pack_digits` meets its contract: the loop has checked the first 2 k digits and stored their k octets.
 use Prim.Native.Nat.{ℕ, ◌+◌, ◌*◌, ◌/◌, ◌≤◌, ◌<◌}
-use mathlib.Core.Path.{◌≡◌, refl, sym, ap₂, ◌∙◌, subst}
+use mathlib.Core.Path.{◌≡◌, refl, ap₂, ◌∙◌, subst}
 use mathlib.Core.List.{List, [], ◌∷◌}
 use native.Mathlib.Omega.{arith}
 use Rattle.std.specs.Prelude.{Result, IsErrAnd}
@@ -90,10 +90,10 @@ returns c =
     let k : c.loop-k.k ≡ n = omega arith in
     let even = rw k at c.loop-k.invariant in
     elim c.if-whole-given.branch [
-      then-whole-given+in_ok-packed w ↦
-        let last = checked_more built_in built_in_lawful digits (2 * n) (omega arith) even.0 _ w.in_ok-packed.ensures in
-        let b = stored digits c.requires.digits_len_bound n even.1 _ (last.1 ∙ octet_one (nibble built_in) digits n (omega arith) (omega arith)) (omega arith) (omega arith) in
-        rw w.packed-is (finished digits c.requires.digits_len_bound (n + 1) b (2 * n + 1) _ last.2 (omega arith) (omega arith) (omega arith))
+      | then-whole-given+in_ok-packed w ↦
+          let last = checked_more built_in built_in_lawful digits (2 * n) (omega arith) even.0 _ w.in_ok-packed.ensures in
+          let b = stored digits c.requires.digits_len_bound n even.1 _ (last.1 ∙ octet_one (nibble built_in) digits n (omega arith) (omega arith)) (omega arith) (omega arith) in
+          rw w.packed-is (finished digits c.requires.digits_len_bound (n + 1) b (2 * n + 1) _ last.2 (omega arith) (omega arith) (omega arith))
       | else-whole-given w ↦
-        rw w.packed-is (finished digits c.requires.digits_len_bound n even.1 (2 * n) _ even.0 (omega arith) (omega arith) (omega arith))
+          rw w.packed-is (finished digits c.requires.digits_len_bound n even.1 (2 * n) _ even.0 (omega arith) (omega arith) (omega arith))
     ]

@@ -25,11 +25,11 @@ returns c =
     let same : c.loop-byte.byte-index ≡ i = omega (arith, length-take-le i c.args.bytes.now half) in
     let even : Largest c.args.bytes.now (2 * i) c.loop-byte.most = rw same at c.loop-byte.invariant in
     elim c.if-n-eq1.branch [
-      then-n-eq1 w ↦
-        let e : 2 * i + 1 ≡ c.args.n = omega arith in
-        rw w.most-is (largest_decides c.args.bytes.now c.args.n c.requires.n_bound_2 _ c.requires.n_bound
-        (rw (← e) (largest_low c.args.bytes.now i c.loop-byte.most _ even w.max-most-then-n-eq1.ensures)))
+      | then-n-eq1 w ↦
+          let e : 2 * i + 1 ≡ c.args.n = omega arith in
+          rw w.most-is (largest_decides c.args.bytes.now c.args.n c.requires.n_bound_2 _ c.requires.n_bound
+          (rw (← e) (largest_low c.args.bytes.now i c.loop-byte.most _ even w.max-most-then-n-eq1.ensures)))
       | else-n-eq1 w ↦
-        let e : 2 * i ≡ c.args.n = omega arith in
-        rw w.most-is (largest_decides c.args.bytes.now c.args.n c.requires.n_bound_2 _ c.requires.n_bound (rw (← e) even))
+          let e : 2 * i ≡ c.args.n = omega arith in
+          rw w.most-is (largest_decides c.args.bytes.now c.args.n c.requires.n_bound_2 _ c.requires.n_bound (rw (← e) even))
     ]

@@ -10,8 +10,10 @@ use native.Mathlib.Numerals.{add-one}
 use lib.ListN.{length, get_or, set, take, drop}
 use lib.Seq.{take-suc, take_all, split_at}
 use borrow.Author.Tests.{eqb-true, le-leb, lt-leb}
-use Rattle.bcd.specs.Outcome.{accepted, refused, mapped, pick, every}
+use Rattle.bcd.specs.Outcome.{Outcome, accepted, refused, mapped, pick, every}
+use Rattle.bcd.proofs.Outcomes.{never, mapped_inv}
 use Rattle.parameter.specs.declared.Place.{Place}
+use Rattle.parameter.specs.Parameter.{Param}
 use Rattle.parameter.specs.Walk.{valued}
 use Rattle.parameter.specs.Table.{Table, records, first_with}
 use Rattle.parameter.proofs.Records.{nowhere, inside, records_few, records-inside}
@@ -131,3 +133,16 @@ module _ (w : List ℕ) (values : List ℕ) (t : Table) (count : ℕ) where
       ∙ sym (ap (mapped (λ ps. firsts w (take count t)))
       (records-inside values t count few
       ∙ ap (λ b. pick b (accepted (map (valued values) (take count t))) (refused 15 [])) (ap (every (inside values)) (sym whole) ∙ k)))
+
+  -- what the answer tells of the records
+  pub first_refused : (n : ℕ) (vs : List ℕ) → refused n vs ≡ first_of w values t count → records values t count ≡ refused n vs
+  unfolding first_of
+  first_refused n vs e = go (records values t count) e
+    where
+      go : (o : Outcome (List Param)) → refused n vs ≡ mapped (λ ps. firsts w (take count t)) o → o ≡ refused n vs
+      go (refused m ws) f = let a : m ≡ n = cc in let b : ws ≡ vs = cc in rw (a, b)
+      go (accepted ps) f = absurd (never f)
+
+  pub first_known : (first : List (Option Place)) → accepted first ≡ first_of w values t count → (ps : List Param) × (records values t count ≡ accepted ps) × (first ≡ firsts w (take count t))
+  unfolding first_of
+  first_known first e = let (ps, k, f) = mapped_inv _ (records values t count) (sym e) in (ps, k, sym f)

@@ -4,14 +4,14 @@ use mathlib.Core.Path.{◌≡◌, refl, sym, ap, ◌∙◌}
 use mathlib.Core.List.{List}
 use native.Mathlib.Omega.{arith}
 use lib.ListN.{length, get_or}
-use Rattle.bcd.specs.Outcome.{Outcome, accepted, refused, after, mapped, most}
+use Rattle.bcd.specs.Outcome.{Outcome, accepted, refused, after, mapped, bounded, most}
 use Rattle.bcd.specs.Digits.{built_in}
 use Rattle.parameter.specs.declared.Place.{Place}
 use Rattle.parameter.specs.Parameter.{two_at, most_value, run_length}
 use Rattle.parameter.specs.Walk.{ended, found, step_at, valued}
-use Rattle.parameter.proofs.Walking.{step_inv}
-use Rattle.parameter.proofs.Reaching.{Reached, reached_start, reached_out, reached_next, reached_end, reached_refused}
-use Rattle.bcd.proofs.Outcomes.{mapped_inv, octets-of}
+use Rattle.parameter.proofs.Walking.{Found}
+use Rattle.parameter.proofs.Reaching.{Reached, reached_start, reached_end, reached_refused, walk_step, walk_found, walk_more}
+use Rattle.bcd.proofs.Outcomes.{mapped_inv, bounded-within, octets-of}
 use Rattle.bcd.proofs.Characters.{built_in_lawful}
 use Rattle.message.specs.declared.header.CommonHeader.{CommonHeader}
 use Rattle.message.specs.Message.{read_header, message_octets}
@@ -19,48 +19,47 @@ use Rattle.message.proofs.Messages.{message-length}
 use Rattle.form.specs.Form.{settled_param}
 use Rattle.form.specs.Steps.Passes.{settled_run, sum_of}
 use Rattle.form.proofs.Demand3.{form_room}
-use Rattle.form.proofs.Passes.{settled_run_lem, run_walked, run_refused, taken, taken_more, sum_small, valued-length}
+use Rattle.form.proofs.Passes.{settled_run_lem, run_walked, run_refused, taken, taken_more, sum_small, value_small}
 
--- a place that a step found has a value that a length of 16 bits can tell
-pub found_small : (xs : List ℕ) (at : ℕ) (p : Place) (next : ℕ) → ((i : ℕ) → get_or xs i 0 < 256) → step_at xs at ≡ accepted (found p next) → p.length ≤ most_value
+-- A place that a step found has a value that a length of 16 bits can tell.
+pub found_small : (xs : List ℕ) (at : ℕ) (p : Place) (next : ℕ) → ((i : ℕ) → get_or xs i 0 < 256) → Found xs at p next → p.length ≤ most_value
 unfolding two_at
-found_small xs at p next o e = let f = step_inv xs at e in omega (arith, f.size, o (at + 2), o (at + 2 + 1))
+found_small xs at p next o f = omega (arith, f.size, o (at + 2), o (at + 2 + 1))
 
-pub record Measuring (xs : List ℕ) (n at : ℕ) (sum : Outcome ℕ) : Type 0 where
-  pub reached : Reached xs 8 n at
+pub record Measuring (xs : List ℕ) (at : ℕ) (sum : Outcome ℕ) : Type 0 where
+  pub reached : Reached xs 8 at
   pub so_far : sum ≡ taken xs reached.done
-  pub small : sum_of sum ≤ 65536 * n
+  pub small : sum_of sum ≤ 65536 * at
 
-pub measuring_start : (xs : List ℕ) → Measuring xs 0 8 (accepted 0)
-unfolding reached_start run_length
+pub measuring_start : (xs : List ℕ) → Measuring xs 8 (accepted 0)
+unfolding run_length
 measuring_start xs = record { reached = reached_start xs 8; so_far = refl; small = omega arith }
 
-module _ {xs : List ℕ} {n at : ℕ} {sum : Outcome ℕ} (m : Measuring xs n at sum) where
-  pub measured_out : length xs ≤ n → sum ≡ mapped run_length (settled_run built_in xs)
-  measured_out h = m.so_far ∙ sym (ap (mapped run_length) (run_walked built_in xs m.reached.done (reached_out m.reached h)))
+module _ {xs : List ℕ} {at : ℕ} {sum : Outcome ℕ} (m : Measuring xs at sum) where
+  pub measuring_more :
+      (p : Place) (next : ℕ) (r : Outcome ℕ)
+      → p.length ≤ most_value
+      → accepted (found p next) ≡ bounded xs (step_at xs at)
+      → r ≡ after sum (λ n. mapped (λ qs. n + run_length qs) (settled_param built_in (valued xs p)))
+      → Measuring xs next r
+  measuring_more p next r l e k =
+      let f = walk_found xs at e in
+      let bound = sum_small sum (valued xs p) r (65536 * at) (value_small xs p l) m.small k in
+      record {
+        reached = walk_more m.reached p next e;
+        so_far = k ∙ ap (λ s. after s (λ n. mapped (λ qs. n + run_length qs) (settled_param built_in (valued xs p)))) m.so_far ∙ taken_more xs m.reached.done p;
+        small = omega (arith, f.forward);
+      }
 
-  module _ (h : n < length xs) where
-    pub measuring_more :
-        (p : Place) (next : ℕ) (r : Outcome ℕ)
-        → p.length ≤ most_value
-        → step_at xs at ≡ accepted (found p next)
-        → r ≡ after sum (λ n. mapped (λ qs. n + run_length qs) (settled_param built_in (valued xs p)))
-        → Measuring xs (n + 1) next r
-    measuring_more p next r l e k =
-        let f = step_inv xs at e in
-        let v = valued-length xs p f.inside in
-        let bound = sum_small sum (valued xs p) r (65536 * n) (omega arith) m.small k in
-        record {
-          reached = reached_next m.reached h p next e;
-          so_far = k ∙ ap (λ s. after s (λ n. mapped (λ qs. n + run_length qs) (settled_param built_in (valued xs p)))) m.so_far ∙ taken_more xs m.reached.done p;
-          small = omega arith;
-        }
+  pub measured_end : accepted ended ≡ bounded xs (step_at xs at) → sum ≡ mapped run_length (settled_run built_in xs)
+  measured_end e = m.so_far ∙ sym (ap (mapped run_length) (run_walked built_in xs m.reached.done (reached_end m.reached (walk_step xs at e))))
 
-    pub measured_end : step_at xs at ≡ accepted ended → sum ≡ mapped run_length (settled_run built_in xs)
-    measured_end e = m.so_far ∙ sym (ap (mapped run_length) (run_walked built_in xs m.reached.done (reached_end m.reached h e)))
-
-    pub measured_refused : (k : ℕ) (vs : List ℕ) → step_at xs at ≡ refused k vs → refused k vs ≡ mapped run_length (settled_run built_in xs)
-    measured_refused k vs e = sym (ap (mapped run_length) (run_refused built_in xs k vs (reached_refused m.reached h k vs e)))
+  pub measured_refused :
+      (k : ℕ) (vs : List ℕ)
+      → length xs ≤ most
+      → refused k vs ≡ bounded xs (step_at xs at)
+      → refused k vs ≡ mapped run_length (settled_run built_in xs)
+  measured_refused k vs h e = sym (ap (mapped run_length) (run_refused built_in xs k vs (reached_refused m.reached k vs (sym (e ∙ bounded-within xs (step_at xs at) h)))))
 
 -- a form is within the bound, so its length fits
 pub run_small :

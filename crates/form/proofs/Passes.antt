@@ -9,9 +9,9 @@ use lib.ListN.{length, take, drop, length-take, length-drop}
 use borrow.Author.Tests.{leb-true}
 use Rattle.bcd.specs.Outcome.{Outcome, accepted, refused, after, mapped, each, Octets}
 use Rattle.bcd.specs.Digits.{Alphabet, Lawful, built_in}
-use Rattle.bcd.proofs.Outcomes.{accepted_inj, never, after_inv, mapped_inv, mapped-mapped, demand_inv, bounded-within}
+use Rattle.bcd.proofs.Outcomes.{accepted_inj, never, after_inv, mapped_inv, demand_inv, bounded-within}
 use Rattle.parameter.specs.declared.Place.{Place}
-use Rattle.parameter.specs.Parameter.{Param, two, padded_length, most_value, param_octets, run_octets, run_length, encode_param, wire_length}
+use Rattle.parameter.specs.Parameter.{Param, param, two, padded_length, most_value, param_octets, run_octets, run_length, encode_param, wire_length}
 use Rattle.parameter.specs.Walk.{places, valued, parameters}
 use Rattle.parameter.proofs.Structure.{places-parameters}
 use Rattle.parameter.proofs.RoundTrip.{run_length_lem, run_length-append}
@@ -122,32 +122,38 @@ rewrite_small tag v w e =
     let (t, same) = demand_inv (leb (length (two a.routing ++ two (indicator a) ++ os)) most_value) 10 _ _ hs in
     subst (λ (w : List ℕ). length w ≤ most_value) (accepted_inj same) (leb-true _ _ t)
 
--- what a parameter takes in the form: nothing, its value's wire length, or that of its address written again
-pub counter_length : (tag : ℕ) (v : List ℕ) → is_hop_counter tag ≡ true → accepted 0 ≡ mapped run_length (settled_param built_in (record { tag = tag; value = v }))
+-- What a parameter takes in the form: nothing, its value's wire length, or that of its address written again.
+pub counter_length : (tag : ℕ) (v : List ℕ) → is_hop_counter tag ≡ true → accepted 0 ≡ mapped run_length (settled_param built_in (param tag v))
 unfolding run_length
-counter_length tag v e = sym (ap (mapped run_length) (settled_counter built_in (record { tag = tag; value = v }) e))
+counter_length tag v e = sym (ap (mapped run_length) (settled_counter built_in (param tag v) e))
 
-pub raw_length : (tag : ℕ) (v : List ℕ) → is_address tag ≡ false → is_hop_counter tag ≡ false → length v ≤ most_value → wire_length tag (length v) ≡ mapped run_length (settled_param built_in (record { tag = tag; value = v }))
+pub raw_length :
+    (tag : ℕ) (v : List ℕ)
+    → is_address tag ≡ false
+    → is_hop_counter tag ≡ false
+    → length v ≤ most_value
+    → wire_length tag (length v) ≡ mapped run_length (settled_param built_in (param tag v))
 raw_length tag v e c h =
-    let p : Param = record { tag = tag; value = v } in
-    wire_within tag (length v) h ∙ sym (ap (mapped run_length) (settled_other built_in p false e c) ∙ ap accepted (one_length p))
+    wire_within tag (length v) h
+    ∙ sym (ap (mapped run_length) (settled_other built_in (param tag v) false e c) ∙ ap accepted (one_length (param tag v)))
 
-module _ (tag : ℕ) (v : List ℕ) (e : is_address tag ≡ true) where
-  pub address-length : (n : ℕ) → accepted n ≡ mapped length (rewrite_address built_in tag v) → wire_length tag n ≡ mapped run_length (settled_param built_in (record { tag = tag; value = v }))
-  address-length n k =
-      let (w, hw, l) = mapped_inv length (rewrite_address built_in tag v) (sym k) in
-      let small : n ≤ most_value = rw (← l) (rewrite_small tag v w hw) in
-      let q : Param = record { tag = tag; value = w } in
-      wire_within tag n small
-      ∙ ap accepted (sym (one_length q ∙ ap padded_length l))
-      ∙ sym (ap (mapped run_length) (settled-address built_in (record { tag = tag; value = v }) e ∙ ap (mapped (λ w. record { tag = tag; value = w } ∷ [])) hw))
-
-  pub address_refused : (n : ℕ) (vs : List ℕ) → refused n vs ≡ mapped length (rewrite_address built_in tag v) → refused n vs ≡ mapped run_length (settled_param built_in (record { tag = tag; value = v }))
-  address_refused n vs k = go (rewrite_address built_in tag v) k ∙ sym (ap (mapped run_length) (settled-address built_in (record { tag = tag; value = v }) e))
-    where
-      go : (o : Outcome (List ℕ)) → refused n vs ≡ mapped length o → refused n vs ≡ mapped run_length (mapped (λ w. record { tag = tag; value = w } ∷ []) o)
-      go (accepted w) k = absurd (never k)
-      go (refused m ws) k = k
+pub address_length :
+    (tag : ℕ) (v : List ℕ)
+    → is_address tag ≡ true
+    → length v ≤ most_value
+    → after (mapped length (after (read_address built_in v) (write_address built_in tag))) (wire_length tag)
+    ≡ mapped run_length (settled_param built_in (param tag v))
+address_length tag v e h =
+    ap (λ o. after (mapped length o) (wire_length tag)) (rewrite_read tag v h)
+    ∙ go (rewrite_address built_in tag v) refl
+    ∙ sym (ap (mapped run_length) (settled-address built_in (param tag v) e))
+  where
+    go :
+        (o : Outcome (List ℕ))
+        → rewrite_address built_in tag v ≡ o
+        → after (mapped length o) (wire_length tag) ≡ mapped run_length (mapped (λ w. param tag w ∷ []) o)
+    go (accepted w) k = wire_within tag (length w) (rewrite_small tag v w k) ∙ ap accepted (sym (one_length (param tag w)))
+    go (refused n vs) k = refl
 
 -- a parameter takes at most 65,536 octets, and so sums stay small
 param_small : (p : Param) (qs : List Param) → length p.value ≤ most_value → settled_param built_in p ≡ accepted qs → run_length qs ≤ 65536
@@ -182,18 +188,9 @@ length_small p n h e =
     let (qs, q, l) = mapped_inv run_length (settled_param built_in p) (sym e) in
     rw (← l) (param_small p qs h q)
 
--- the parameter at a place, lent as a part of the message
-pub valued_part : (xs : List ℕ) (p : Place) → record { tag = p.tag; value = take (p.start + p.length - p.start) (drop p.start xs) } ≡ valued xs p
-valued_part xs p = ap (λ (v : List ℕ). record { tag = p.tag; value = v }) (part_of p.start p.length xs)
-
-pub valued-length : (xs : List ℕ) (p : Place) → p.start + p.length ≤ length xs → length (valued xs p).value ≡ p.length
-valued-length xs p h = rw (length-take p.length (drop p.start xs), length-drop p.start xs) (omega arith)
-
--- a sum with one parameter more
-pub added : (p q : Param) (total : ℕ) (r : Outcome ℕ) → p ≡ q → r ≡ mapped run_length (settled_param built_in p) → mapped (λ n. total + n) r ≡ mapped (λ qs. total + run_length qs) (settled_param built_in q)
-added p q total r same e =
-    ap (mapped (λ n. total + n)) (e ∙ ap (λ (p : Param). mapped run_length (settled_param built_in p)) same)
-    ∙ mapped-mapped (λ n. total + n) run_length (settled_param built_in q)
+-- A place's value is no longer than the place tells.
+pub value_small : (xs : List ℕ) (p : Place) → p.length ≤ most_value → length (valued xs p).value ≤ most_value
+value_small xs p h = rw (length-take p.length (drop p.start xs)) (omega arith)
 
 -- a form whose parameters are known
 pub record Run (A : Alphabet) (xs : List ℕ) (h : CommonHeader) (run : ℕ) : Type 0 where

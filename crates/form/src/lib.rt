@@ -9,7 +9,7 @@ ghost use Rattle.bcd.specs.Digits.{built_in};
 ghost use Rattle.parameter.specs.Parameter.{Param, param, most_value, run_octets, run_length};
 ghost use Rattle.parameter.specs.Walk.{valued};
 ghost use Rattle.form.specs.Form.{is_address, settled_param, settled};
-ghost use Rattle.form.specs.Steps.Passes.{settled_run, sum_of, Placeable, RunFits};
+ghost use Rattle.form.specs.Steps.Passes.{settled_run, sum_of, Placeable};
 
 use bcd::error::Refusal;
 use message::header::CommonHeader;
@@ -74,7 +74,7 @@ pub fn settled_length(input: &[u8]) -> Result<usize, Refusal>
 // Writes a parameter's part of the form, for which there is room; a hop counter has none.
 fn put_settled(tag: u16, value: &[u8], out: &mut [u8]) -> Result<usize, Refusal>
     requires value_len_bound { length value.now ≤ most_value }
-    requires placeable { Placeable (param tag value.now) (length out.old) }
+    requires placeable { Placeable (settled_param built_in (param tag value.now)) (length out.old) }
     ensures { delivered (outcome_of result) out.new
         ≡ deliver (mapped run_octets (settled_param built_in (param tag value.now))) out.old }
 {
@@ -91,7 +91,7 @@ fn put_settled(tag: u16, value: &[u8], out: &mut [u8]) -> Result<usize, Refusal>
 // Writes the parameters of the form, for which there is room.
 fn write_params(input: &[u8], out: &mut [u8]) -> Result<usize, Refusal>
     requires input_len_bound { length input.now ≤ most }
-    requires run_fits { RunFits (settled_run built_in input.now) (length out.old) }
+    requires placeable { Placeable (settled_run built_in input.now) (length out.old) }
     ensures { delivered (outcome_of result) out.new
         ≡ deliver (mapped run_octets (settled_run built_in input.now)) out.old }
 {

@@ -1,12 +1,8 @@
--- `form::measure` meets its contract: the loop has measured the first n parameters.
-use Prim.Native.Nat.{◌-◌}
-use lib.ListN.{length}
-use Rattle.bcd.specs.Answers.{counted_of}
+-- `form::measure` meets its contract: the loop has measured the parameters up to a position.
+use mathlib.Core.Path.{◌≡◌}
+use Rattle.bcd.specs.Answers.{outcome_of}
 use Rattle.form.proofs.Measuring.{Measuring}
 use Rattle.form.proofs.measure.Given as goal
 
-abbrev pub invariant-loop-n : goal.invariant-loop-n
-invariant-loop-n l = Measuring l.input l.n l.c.at (counted_of l.sum)
-
-abbrev pub decreases-loop-n : goal.decreases-loop-n
-decreases-loop-n l = length l.input - l.n
+abbrev pub invariant-loop-place : goal.invariant-loop-place
+invariant-loop-place l = (l.place-iterator.bytes.now ≡ l.input) × Measuring l.input l.place-iterator.at (outcome_of l.sum)

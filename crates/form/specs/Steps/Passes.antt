@@ -15,13 +15,8 @@ abbrev pub sum_of : Outcome ℕ → ℕ
 sum_of (accepted n) = n
 sum_of (refused number values) = 0
 
--- A parameter whose part of the form is known, and fits in so many octets.
-pub record Placeable (p : Param) (room : ℕ) : Type 0 where
-  pub params : List Param
-  pub settles : settled_param built_in p ≡ accepted params
-  pub fits : run_length params ≤ room
-
 -- Parameters of the form that are known, and fit in so many octets.
-abbrev pub RunFits : Outcome (List Param) → (room : ℕ) → Type 0
-RunFits (accepted ps) room = run_length ps ≤ room
-RunFits (refused number values) room = ⊥
+pub record Placeable (o : Outcome (List Param)) (room : ℕ) : Type 0 where
+  pub params : List Param
+  pub settles : o ≡ accepted params
+  pub fits : run_length params ≤ room

@@ -1,16 +1,8 @@
 -- Laws and theorems that belong to no one function.
-pub mod Ignored
 pub mod Pairs
-pub mod Headers
 pub mod Framing
 pub mod Messages
+pub mod Headers
 pub mod Listing
 pub mod Standing
-pub mod Constructing
-pub mod Addressing
-pub mod GivenBack
-pub mod Constructed
-pub mod ConstructedWorked
-pub mod AddressBack
-pub mod AddressStands
-pub mod Accessed
+pub mod Ignored

@@ -8,7 +8,7 @@ use lib.ListN.{length, drop, length-take, length-drop}
 use borrow.Author.Tests.{le-leb, lt-leb, leb-true}
 use borrow.Rule.Slice.PartMut.{mid_of, put_mid}
 use Rattle.bcd.specs.Outcome.{Outcome, accepted, refused, after, mapped, each, most, bounded, fit64, deliver}
-use Rattle.bcd.proofs.Outcomes.{never, mapped_inv, demand_inv, bounded-within, deliver_refused, deliver_buffer}
+use Rattle.bcd.proofs.Outcomes.{never, mapped_inv, demand_inv, bounded-within, deliver_refused, deliver_buffer, deliver_answer}
 use Rattle.bcd.proofs.Writing.{begin, extend, delivered}
 use Rattle.parameter.specs.Parameter.{Param, run_octets, encode_param, writable}
 use Rattle.parameter.specs.Walk.{places}
@@ -16,7 +16,7 @@ use Rattle.parameter.specs.Table.{Table, Tabulated, tabulate}
 use Rattle.parameter.proofs.RoundTrip.{encode_inv}
 use Rattle.message.specs.declared.types.MessageType.{MessageType}
 use Rattle.message.specs.declared.header.CommonHeader.{CommonHeader}
-use Rattle.message.specs.Message.{header_with, header_octets, read_header, write_header, message_places, message_octets, write_message}
+use Rattle.message.specs.Message.{header_with, header_octets, framed, read_header, write_header, message_places, message_octets, write_message}
 use Rattle.message.specs.Listing.{list_message}
 
 -- Reading
@@ -40,10 +40,6 @@ list_stored xs t h stored e k =
     rw (e, ← (k ∙ w))
 
 -- Writing
-
--- the octets of a message, of its parameters' octets
-abbrev pub framed : MessageType → List ℕ → List ℕ
-framed m os = header_octets (header_with m (8 + length os)) ++ os
 
 pub framed-length : (m : MessageType) (os : List ℕ) → length (framed m os) ≡ 8 + length os
 framed-length m os = omega arith
@@ -117,3 +113,22 @@ message-done m os total out d last h o n fits same list head rest =
     let frame : hs ++ os ≡ framed m os =
     ap (λ (k : CommonHeader). header_octets k ++ os) same ∙ ap (λ (k : ℕ). header_octets (header_with m k) ++ os) n in
     delivered total b2 (omega arith) ∙ ap (λ (w : List ℕ). deliver (accepted w) out) frame
+
+-- where there is room for a message, neither its header nor its parameters are refused
+pub header_room : (h : CommonHeader) (out : List ℕ) {d : List ℕ} {n : ℕ} {vs : List ℕ} → 8 ≤ length out → record { answer = refused n vs; buffer = d } ≡ deliver (write_header h) out → ⊥
+unfolding write_header
+header_room h out room head = never (deliver_answer (header_octets h) out room head)
+
+pub rest_room :
+    (os : List ℕ) (out d : List ℕ) (h : CommonHeader) (o : Outcome (List ℕ)) {last : List ℕ} {a : Outcome ℕ} {n : ℕ} {vs : List ℕ}
+    → 8 + length os ≤ length out
+    → o ≡ accepted os
+    → record { answer = a; buffer = d } ≡ deliver (write_header h) out
+    → record { answer = refused n vs; buffer = last } ≡ deliver o (mid_of 8 (length d - 8) d)
+    → ⊥
+unfolding write_header
+rest_room os out d h o room list head rest =
+    let hs = header_octets h in
+    let b = begin out hs d (omega arith) (deliver_buffer hs out (omega arith) head) in
+    let lent : length (mid_of 8 (length d - 8) d) ≡ length d - 8 = rw (length-take (length d - 8) (drop 8 d), length-drop 8 d) (omega arith) in
+    never (deliver_answer os (mid_of 8 (length d - 8) d) (omega (arith, b.same)) (rest ∙ ap (λ o. deliver o (mid_of 8 (length d - 8) d)) list))

@@ -29,7 +29,8 @@ fn write(
 ) -> Result<usize, Refusal>
     ensures { delivered (outcome_of result) out.new ≡ deliver (made message_type parts.now) out.old }
 {
-    let total = CommonHeader::SIZE.saturating_add(run_length(parts)?);
+    let run = run_length(parts)?;
+    let total = CommonHeader::SIZE.saturating_add(run);
     if 1048576 < total {
         return Err(Refusal::TooManyOctets(total));
     }

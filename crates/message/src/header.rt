@@ -34,6 +34,7 @@ impl CommonHeader {
     }
 
     // Reads the header in front of a message. 12, 1, 2, 4.
+    #[tactic(auto, unfolding(crate::specs::Message::read_header))]
     pub fn decode(bytes: &[u8]) -> Result<CommonHeader, Refusal>
         ensures { outcome_of result ≡ read_header bytes.now }
     {
@@ -57,6 +58,7 @@ impl CommonHeader {
     }
 
     // Writes a header with the version and the length that it holds. 14.
+    #[tactic(auto, unfolding(crate::specs::Message::write_header))]
     pub fn encode(self, out: &mut [u8]) -> Result<usize, Refusal>
         ensures { delivered (outcome_of result) out.new ≡ deliver (write_header self) out.old }
     {

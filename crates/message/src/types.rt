@@ -60,6 +60,7 @@ pub enum MessageType {
 
 impl MessageClass {
     // The class of an octet. 3.
+    #[tactic(auto, unfolding(crate::specs::Types::from_octet))]
     pub fn from_u8(value: u8) -> Result<MessageClass, Refusal>
         ensures { outcome_of result ≡ from_octet value }
     {
@@ -86,6 +87,7 @@ impl TryFrom<u8> for MessageClass {
 }
 
 // The types of class 0, management.
+#[tactic(auto, unfolding(crate::specs::Types::from_class_type))]
 fn management(msg_type: u8) -> Result<MessageType, Refusal>
     ensures { outcome_of result ≡ from_class_type 0 msg_type }
 {
@@ -97,6 +99,7 @@ fn management(msg_type: u8) -> Result<MessageType, Refusal>
 }
 
 // The types of class 2, signalling network management.
+#[tactic(auto, unfolding(crate::specs::Types::from_class_type))]
 fn snm(msg_type: u8) -> Result<MessageType, Refusal>
     ensures { outcome_of result ≡ from_class_type 2 msg_type }
 {
@@ -112,6 +115,7 @@ fn snm(msg_type: u8) -> Result<MessageType, Refusal>
 }
 
 // The types of class 3, ASP state maintenance.
+#[tactic(auto, unfolding(crate::specs::Types::from_class_type))]
 fn aspsm(msg_type: u8) -> Result<MessageType, Refusal>
     ensures { outcome_of result ≡ from_class_type 3 msg_type }
 {
@@ -127,6 +131,7 @@ fn aspsm(msg_type: u8) -> Result<MessageType, Refusal>
 }
 
 // The types of class 4, ASP traffic maintenance.
+#[tactic(auto, unfolding(crate::specs::Types::from_class_type))]
 fn asptm(msg_type: u8) -> Result<MessageType, Refusal>
     ensures { outcome_of result ≡ from_class_type 4 msg_type }
 {
@@ -140,6 +145,7 @@ fn asptm(msg_type: u8) -> Result<MessageType, Refusal>
 }
 
 // The types of class 7, connectionless messages.
+#[tactic(auto, unfolding(crate::specs::Types::from_class_type))]
 fn connection_less(msg_type: u8) -> Result<MessageType, Refusal>
     ensures { outcome_of result ≡ from_class_type 7 msg_type }
 {
@@ -151,6 +157,7 @@ fn connection_less(msg_type: u8) -> Result<MessageType, Refusal>
 }
 
 // The types of class 8, connection-oriented messages.
+#[tactic(auto, unfolding(crate::specs::Types::from_class_type))]
 fn connection_oriented(msg_type: u8) -> Result<MessageType, Refusal>
     ensures { outcome_of result ≡ from_class_type 8 msg_type }
 {
@@ -171,6 +178,7 @@ fn connection_oriented(msg_type: u8) -> Result<MessageType, Refusal>
 }
 
 // The types of class 9, routing key management.
+#[tactic(auto, unfolding(crate::specs::Types::from_class_type))]
 fn rkm(msg_type: u8) -> Result<MessageType, Refusal>
     ensures { outcome_of result ≡ from_class_type 9 msg_type }
 {
@@ -185,6 +193,7 @@ fn rkm(msg_type: u8) -> Result<MessageType, Refusal>
 
 impl MessageType {
     // The type of a class and a type. 4.
+    #[tactic(auto, unfolding(crate::specs::Types::from_class_type))]
     pub fn from_class_type(class: u8, msg_type: u8) -> Result<MessageType, Refusal>
         ensures { outcome_of result ≡ from_class_type class msg_type }
     {
@@ -244,6 +253,7 @@ impl MessageType {
     }
 
     // The class of the type.
+    #[tactic(auto, unfolding(crate::specs::Types::from_octet))]
     pub fn message_class(self) -> MessageClass
         ensures { accepted result ≡ from_octet (class_of self) }
     {

@@ -1,19 +1,17 @@
 -- `message::SuaMessage::decode` meets its contract: the header, then the places of the parameters.
 use mathlib.Core.Path.{sym}
-use Rattle.parameter.specs.Table.{table}
+use Rattle.bcd.proofs.Results.{exit}
 use Rattle.message.proofs.Listing.{list_refused, list_stored}
 use Rattle.message.proofs.SuaMessage.decode.Goals as goal
 
-pub returns-in-Refused : goal.returns-in-Refused
-returns-in-Refused c =
-    list_refused c.args.bytes.now (table c.args.tags.now c.args.starts.now c.args.lengths.now) _ _ (sym c.in-Refused.ensures)
+pub returns-in_err-message_type : goal.returns-in_err-message_type
+returns-in_err-message_type c =
+    rw (exit _ _ c.from_residual.ensures.1) (list_refused c.args.bytes.now c.args.rows.now _ _ (sym c.in_err-message_type.ensures))
 
-pub returns-in-Refused-decode_parameters_from : goal.returns-in-Refused-decode_parameters_from
-returns-in-Refused-decode_parameters_from c =
-    list_stored c.args.bytes.now (table c.args.tags.now c.args.starts.now c.args.lengths.now) c.in-Header.h _
-    (sym c.in-Header.ensures) c.in-Refused-decode_parameters_from.ensures
+pub returns-in_err-count : goal.returns-in_err-count
+returns-in_err-count c =
+    rw (exit _ _ c.from_residual-in_err-count.ensures.1)
+    (list_stored c.args.bytes.now c.args.rows.now c.in_ok-message_type.field-0 _ (sym c.in_ok-message_type.ensures) c.in_err-count.ensures)
 
-pub returns-in-Count : goal.returns-in-Count
-returns-in-Count c =
-    list_stored c.args.bytes.now (table c.args.tags.now c.args.starts.now c.args.lengths.now) c.in-Header.h _
-    (sym c.in-Header.ensures) c.in-Count.ensures
+pub returns : goal.returns
+returns c = list_stored c.args.bytes.now c.args.rows.now c.in_ok-message_type.field-0 _ (sym c.in_ok-message_type.ensures) c.in_ok-count.ensures

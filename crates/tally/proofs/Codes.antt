@@ -3,7 +3,7 @@ use Prim.Native.Nat.{ℕ, ◌+◌, ◌-◌, ◌*◌, ◌^◌, ◌≤◌, ◌<◌
 use mathlib.Core.Path.{◌≡◌, refl, sym, ap, ap₂, ◌∙◌}
 use mathlib.Core.Logic.{⊎_elim}
 use mathlib.Core.Bool.{Bool, true, false, not, ◌&&◌, ◌||◌, and-false, or-false}
-use mathlib.Core.List.{List, [], ◌∷◌, ◌++◌}
+use mathlib.Core.List.{List, [], ◌∷◌, ◌++◌, map}
 use native.Mathlib.Omega.{arith}
 use native.Mathlib.Numerals.{add-one}
 use native.Mathlib.Nat.{pow-suc, pow-le-pow_right}
@@ -17,7 +17,7 @@ use Rattle.bcd.proofs.Halves.{Nibbles}
 use Rattle.bcd.proofs.Below.{both}
 use Rattle.bcd.proofs.Tests.{agree, among-append}
 use Rattle.tally.specs.Members.{between, every, same, distinct}
-use Rattle.tally.specs.Steps.Codes.{code_from, code, values, codes, unlike, Kept}
+use Rattle.tally.specs.Steps.Codes.{code_from, code, values, codes, unlike}
 use Rattle.tally.proofs.Lists.{between_inv}
 use Rattle.tally.proofs.Beginning.{same_true, same_self}
 
@@ -128,41 +128,12 @@ coded_next hs i n h l k e c = (
 pub coded_most : (hs : List ℕ) (i n : ℕ) → i ≤ 14 → Coded hs i n → n < 2 * 16 ^ 14
 coded_most hs i n h c = omega (arith, c.1, pow-le-pow_right {n = 16} (lit< tt) h)
 
+-- Members of decimal digits, beside their lengths and their numbers.
+pub record Kept (ps : List (List ℕ)) (lengths held : List ℕ) : Type 0 where
+  pub sizes : lengths ≡ map length ps
+  pub numbers : take (length ps) held ≡ codes ps
+  pub decimal : every (every (between 0x30 0x39)) ps ≡ true
+
 -- as many lengths as members
 pub kept_count : {ps : List (List ℕ)} {lengths held : List ℕ} → Kept ps lengths held → length lengths ≡ length ps
 kept_count {ps} k = ap length k.sizes ∙ length-map ps length
-
--- no two of the first i are the same, and the next is not among them
-unlike-append : (ns : List ℕ) (n : ℕ) → unlike (ns ++ (n ∷ [])) ≡ (unlike ns && not (among n ns))
-unlike-append [] n = refl
-unlike-append (m ∷ ns) n =
-    rw (among-append m ns (n ∷ []), unlike-append ns n, or-false (eqb n m), turned n m)
-    (sides (among m ns) (eqb m n) (unlike ns) (among n ns))
-  where
-    turned : (m n : ℕ) → eqb m n ≡ eqb n m
-    turned m n = agree (eqb m n) (eqb n m) (λ e. eq-eqb n m (sym (eqb-true m n e))) (λ e. eq-eqb m n (sym (eqb-true n m e)))
-
-    sides : (a e u c : Bool) → (not (a || e) && (u && not c)) ≡ (not a && u && not (e || c))
-    sides true e u c = refl
-    sides false true u c = sym (and-false u)
-    sides false false u c = refl
-
-pub unlike_next : (ns : List ℕ) (i : ℕ) → i < length ns → unlike (take (i + 1) ns) ≡ (unlike (take i ns) && not (among (get_or ns i 0) (take i ns)))
-unlike_next ns i h = rw (add-one, take-suc ns i 0 h) (unlike-append (take i ns) (get_or ns i 0))
-
-unlike-front : (ms ns : List ℕ) → unlike ms ≡ false → unlike (ms ++ ns) ≡ false
-unlike-front [] ns e = let z : ◌≡◌ {A = ℕ} 0 1 = cc in absurd (omega arith)
-unlike-front (m ∷ ms) ns e =
-    rw (among-append m ms ns) (fronts (among m ms) (among m ns) (unlike ms) (unlike (ms ++ ns)) (unlike-front ms ns) e)
-  where
-    fronts : (a b u v : Bool) → (u ≡ false → v ≡ false) → (not a && u) ≡ false → (not (a || b) && v) ≡ false
-    fronts true b u v f e = refl
-    fronts false true u v f e = refl
-    fronts false false u v f e = f e
-
--- a number among those before it
-pub unlike_not : (ns : List ℕ) (i n : ℕ) → i < n → n ≤ length ns → among (get_or ns i 0) (take i ns) ≡ true → unlike (take n ns) ≡ false
-unlike_not ns i n h k e =
-    let front : take (i + 1) (take n ns) ≡ take (i + 1) ns = take-take (i + 1) n ns (omega arith) in
-    let f : unlike (take (i + 1) (take n ns)) ≡ false = rw (front, unlike_next ns i (omega arith), e) (and-false (unlike (take i ns))) in
-    ap unlike (sym (take-append-drop (i + 1) (take n ns))) ∙ unlike-front (take (i + 1) (take n ns)) (drop (i + 1) (take n ns)) f

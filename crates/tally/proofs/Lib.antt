@@ -1,22 +1,10 @@
 -- Laws and theorems that belong to no one function.
+pub mod Folds
 pub mod Lists
 pub mod Beginning
 pub mod Codes
 pub mod Loading
-pub mod Rules
 pub mod Starts
 pub mod Telling
 pub mod Passing
 pub mod Finding
-pub mod LongestMember
-pub mod Titles
-pub mod Looking
-pub mod Meaning
-pub mod LastTitle
-pub mod Placing
-pub mod Summing
-pub mod Raising
-pub mod Counting
-pub mod Calls
-pub mod Day
-pub mod Worked

@@ -11,7 +11,9 @@ use lib.Seq.{take-suc}
 use borrow.Author.Tests.{le-leb, lt-leb, leb-true}
 use Rattle.bcd.proofs.Below.{both}
 use Rattle.bcd.proofs.Tests.{agree}
-use Rattle.tally.specs.Members.{between, every, sum}
+use Rattle.std.specs.List.{sum}
+use Rattle.std.proofs.lemmas.List.Sums.{sum_by-cons}
+use Rattle.tally.specs.Members.{between, every}
 
 -- a number from one to another
 pub between_inv : (low high n : ℕ) → between low high n ≡ true → (low ≤ n) × (n ≤ high)
@@ -27,27 +29,6 @@ between_below low high n l = rw (lt-leb low n l)
 
 pub between_above : (low high n : ℕ) → high < n → between low high n ≡ false
 between_above low high n h = rw (lt-leb n high h) (and-false (leb low n))
-
--- numbers from one to another, by the least and the largest of them
-pub ends_next :
-    (a b low high n l h : ℕ)
-    → l ≡ low - (low - n)
-    → h ≡ high + (n - high)
-    → (leb a l && leb h b) ≡ (leb a low && leb high b && between a b n)
-ends_next a b low high n l h e f =
-    agree (leb a l && leb h b) (leb a low && leb high b && between a b n)
-    (λ t.
-    let k = both (leb a l) (leb h b) t in
-    let low-in = leb-true a l k.0 in
-    let high-in = leb-true h b k.1 in
-    rw (le-leb a low (omega arith), le-leb high b (omega arith), le-leb a n (omega arith), le-leb n b (omega arith)))
-    (λ t.
-    let k = both (leb a low && leb high b) (between a b n) t in
-    let ends = both (leb a low) (leb high b) k.0 in
-    let low-in = leb-true a low ends.0 in
-    let high-in = leb-true high b ends.1 in
-    let in_both = between_inv a b n k.1 in
-    rw (le-leb a l (omega arith), le-leb h b (omega arith)))
 
 module _ {A : Type 0} (test : A → Bool) where
   pub every_append : (xs ys : List A) → every test (xs ++ ys) ≡ (every test xs && every test ys)
@@ -84,17 +65,6 @@ module _ {A : Type 0} (test : A → Bool) where
   pub every_next : (xs : List A) (i : ℕ) (d : A) → i < length xs → every test (take (i + 1) xs) ≡ (every test (take i xs) && test (get_or xs i d))
   every_next xs i d h = rw (add-one, take-suc xs i d h, every_append) (ap (λ b. every test (take i xs) && b) (and-true (test (get_or xs i d))))
 
--- the sum of the first i numbers, and of one more
-pub sum_next : (ns : List ℕ) (i : ℕ) → i < length ns → sum (take (i + 1) ns) ≡ sum (take i ns) + get_or ns i 0
-sum_next ns i h = rw add-one (step ns i h)
-  where
-    step : (ns : List ℕ) (i : ℕ) → i < length ns → sum (take (suc i) ns) ≡ sum (take i ns) + get_or ns i 0
-    step [] i h = absurd (omega arith)
-    step (n ∷ ns) zero h = omega arith
-    step (n ∷ ns) (suc i) h = omega (arith, step ns i (omega arith))
-
-pub sum-take : (ns : List ℕ) (i : ℕ) → sum (take i ns) ≤ sum ns
-sum-take [] zero = omega arith
-sum-take [] (suc i) = omega arith
-sum-take (n ∷ ns) zero = omega arith
-sum-take (n ∷ ns) (suc i) = omega (arith, sum-take ns i)
+-- a sum, number by number
+pub sum_cons : (n : ℕ) (ns : List ℕ) → sum (n ∷ ns) ≡ n + sum ns
+sum_cons n ns = sum_by-cons (λ x. x) n ns

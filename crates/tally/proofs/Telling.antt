@@ -1,20 +1,20 @@
 -- Members that the numbers of the first digits tell: those that the digits begin with.
-use Prim.Native.Nat.{ℕ, zero, suc, ◌+◌, ◌-◌, ◌≤◌, ◌<◌}
+use Prim.Native.Nat.{ℕ, zero, suc, ◌+◌, ◌-◌, ◌*◌, ◌≤◌, ◌<◌}
 use mathlib.Core.Path.{◌≡◌, refl, sym, ap, ap₂, ◌∙◌}
 use mathlib.Core.Bool.{true}
 use mathlib.Core.List.{List, [], ◌∷◌, map, head-eq_of_cons-eq, tail-eq_of_cons-eq, nil≢cons}
 use native.Mathlib.Omega.{arith}
 use lib.ListN.{length, get_or, take, length-map}
-use lib.Seq.{get_or-take}
-use Rattle.bcd.specs.Digits.{built_in}
+use lib.Seq.{get_or-take, take-take, length-take-le}
+use Rattle.bcd.specs.Digits.{built_in, halves}
 use Rattle.bcd.proofs.Outcomes.{all_take}
-use Rattle.bcd.proofs.Halves.{Nibbles}
+use Rattle.bcd.proofs.Halves.{Nibbles, halves-length}
 use Rattle.bcd.proofs.Characters.{built_in-distinct, char_decimal}
 use Rattle.bcd.proofs.Below.{both}
 use Rattle.tally.specs.Members.{between, every, begins}
-use Rattle.tally.specs.Steps.Codes.{code, values, Kept, starts}
-use Rattle.tally.proofs.Codes.{code_inj, values-nibbles, kept_count}
-use Rattle.tally.proofs.Starts.{starts_at, starts-length}
+use Rattle.tally.specs.Steps.Codes.{code, values}
+use Rattle.tally.proofs.Codes.{code_inj, values-nibbles, Kept, kept_count}
+use Rattle.tally.proofs.Starts.{halves_small}
 use Rattle.tally.proofs.Lists.{every_at, between_inv}
 use Rattle.tally.proofs.Beginning.{begins-take, take_begins, begins-length}
 
@@ -59,12 +59,12 @@ module _ (p hs : List ℕ) (d : every (between 0x30 0x39) p ≡ true) (small : N
       (chars_inj (values p) (take (length p) hs) (values-nibbles p d) first_small
       (decimal_chars p d ∙ sym (begins-take p (map built_in.char hs) e) ∙ take-map built_in.char (length p) hs))
 
--- Members, their lengths and numbers, and the numbers of the first digits.
+-- Members, their lengths and numbers, and the numbers of at most n first half octets.
 pub record Given (ps : List (List ℕ)) (lengths held first : List ℕ) (n : ℕ) (hs : List ℕ) : Type 0 where
   pub kept : Kept ps lengths held
   pub small : Nibbles hs
   pub long : length hs ≡ n
-  pub numbers : take (length (starts hs)) first ≡ starts hs
+  pub numbers : (k : ℕ) → k ≤ n → get_or first k 0 ≡ code (take k hs)
 
 module _ {ps : List (List ℕ)} {lengths held first hs : List ℕ} {n : ℕ} (g : Given ps lengths held first n hs) where
   module _ (i : ℕ) (h : i < length lengths) where
@@ -78,19 +78,13 @@ module _ {ps : List (List ℕ)} {lengths held first hs : List ℕ} {n : ℕ} (g 
     member_number =
         sym (get_or-take (length ps) held i 0 inside) ∙ ap (λ l. get_or l i 0) g.kept.numbers ∙ map_at (λ p. code (values p)) ps i inside
 
-    first-number : (k : ℕ) → k ≤ n → get_or first k 0 ≡ code (take k hs)
-    first-number k l =
-        sym (get_or-take (length (starts hs)) first k 0 (omega (arith, starts-length hs, g.long)))
-        ∙ ap (λ l. get_or l k 0) g.numbers
-        ∙ starts_at hs k (omega (arith, g.long))
-
     decimal : every (between 0x30 0x39) (get_or ps i []) ≡ true
     decimal = every_at (every (between 0x30 0x39)) ps i [] g.kept.decimal inside
 
     pub told-begins : get_or lengths i 0 ≤ n → get_or first (get_or lengths i 0) 0 ≡ get_or held i 0 → begins (get_or ps i []) (map built_in.char hs) ≡ true
     told-begins l e =
         code-begins (get_or ps i []) hs decimal g.small
-        (sym member_number ∙ sym e ∙ first-number (get_or lengths i 0) l ∙ ap (λ k. code (take k hs)) member_length)
+        (sym member_number ∙ sym e ∙ g.numbers (get_or lengths i 0) l ∙ ap (λ k. code (take k hs)) member_length)
 
     pub begins-told :
         begins (get_or ps i []) (map built_in.char hs) ≡ true
@@ -99,7 +93,22 @@ module _ {ps : List (List ℕ)} {lengths held first hs : List ℕ} {n : ℕ} (g 
         let l : get_or lengths i 0 ≤ n =
         omega (arith, member_length, begins-length (get_or ps i []) (map built_in.char hs) e, length-map hs built_in.char, g.long) in (
           l,
-          first-number (get_or lengths i 0) l ∙ ap (λ k. code (take k hs)) member_length
+          g.numbers (get_or lengths i 0) l ∙ ap (λ k. code (take k hs)) member_length
               ∙ sym (begins-code (get_or ps i []) hs decimal g.small e)
               ∙ sym member_number,
         )
+
+-- The numbers of the first n half octets of octets, as a loop has stored them.
+pub given_here :
+    {ps : List (List ℕ)} {lengths held first : List ℕ} (xs : List ℕ) (n : ℕ)
+    → Kept ps lengths held
+    → ((i : ℕ) → get_or xs i 0 < 256)
+    → n ≤ 2 * length xs
+    → ((k : ℕ) → k ≤ n → get_or first k 0 ≡ code (take k (halves xs)))
+    → Given ps lengths held first n (take n (halves xs))
+given_here xs n k octets h numbers = record {
+  kept = k;
+  small = all_take (λ (h : ℕ). h < 16) n (halves xs) (halves_small xs octets);
+  long = length-take-le n (halves xs) (rw (halves-length xs) h);
+  numbers = λ k l. numbers k l ∙ ap code (sym (take-take k n (halves xs) l));
+}

@@ -1,24 +1,29 @@
 // A member list as it is lent: the rules that it keeps, and its prefixes as numbers.
-ghost use Rattle.std.specs.Prelude.{◌≡◌, true, ◌≤◌, length, take};
+ghost use Rattle.std.specs.Prelude.{◌≡◌, true, ◌≤◌, length, take, sum};
 ghost use Rattle.bcd.specs.Outcome.{among};
 ghost use Rattle.tally.specs.Members.{between, every, members, valid_lengths};
 ghost use Rattle.tally.specs.Steps.Codes.{code, values, codes, unlike};
 
-// Whether there are 1 to 64 lengths, each of 1 to 15, that add up to `total`.
-pub(crate) fn valid_lengths(lengths: &[u8], total: usize) -> bool
-    ensures { result ≡ valid_lengths total lengths.now }
+// Whether each length is 1 to 15.
+fn short(lengths: &[u8]) -> bool
+    ensures { result ≡ every (between 1 15) lengths.now }
 {
-    if lengths.is_empty() || 64 < lengths.len() {
-        return false;
-    }
-    let mut sum = 0;
-    for &k in lengths {
-        if k < 1 || 15 < k {
-            return false;
-        }
-        sum += k as usize;
-    }
-    sum == total
+    lengths.iter().all(|k| (1..=15).contains(k))
+}
+
+// The lengths added up.
+fn total(lengths: &[u8]) -> usize
+    requires { length lengths.now ≤ 64 }
+    ensures { result ≡ sum lengths.now }
+{
+    lengths.iter().map(|&k| usize::from(k)).sum()
+}
+
+// Whether there are 1 to 64 lengths, each of 1 to 15, that add up to so many characters.
+pub(crate) fn valid_lengths(lengths: &[u8], characters: usize) -> bool
+    ensures { result ≡ valid_lengths characters lengths.now }
+{
+    (1..=64).contains(&lengths.len()) && short(lengths) && total(lengths) == characters
 }
 
 // Whether all octets are 0 to 9. All are looked at, so that the loop has no branch.
@@ -50,7 +55,7 @@ pub(crate) fn numbers(digits: &[u8], lengths: &[u8]) -> [u64; 64]
     let mut numbers = [0; 64];
     let mut rest = digits;
     for (i, &k) in lengths.iter().enumerate() {
-        let (prefix, more) = rest.split_at(k as usize);
+        let (prefix, more) = rest.split_at(usize::from(k));
         numbers[i] = code(prefix);
         rest = more;
     }
@@ -61,17 +66,21 @@ pub(crate) fn numbers(digits: &[u8], lengths: &[u8]) -> [u64; 64]
 fn among(numbers: &[u64], number: u64) -> bool
     ensures { result ≡ among number numbers.now }
 {
-    numbers.iter().fold(false, |found, &n| found | (n == number))
+    numbers
+        .iter()
+        .fold(false, |found, &n| found | (n == number))
 }
 
 // Whether no two numbers are the same.
 pub(crate) fn distinct(numbers: &[u64]) -> bool
     ensures { result ≡ unlike numbers.now }
 {
-    for (i, &number) in numbers.iter().enumerate() {
-        if among(&numbers[..i], number) {
+    let mut rest = numbers;
+    while let Some((&number, more)) = rest.split_first() {
+        if among(more, number) {
             return false;
         }
+        rest = more;
     }
     true
 }

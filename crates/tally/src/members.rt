@@ -24,11 +24,11 @@ impl<'a> Model for Members<'a> {
     ghost Value = { List (List ℕ) };
 
     ghost use Rattle.tally.specs.Members.{members};
-    ghost use Rattle.tally.specs.Steps.Codes.{Kept};
+    ghost use Rattle.tally.specs.Steps.Codes.{Numbered};
 
     ghost view = { λ m. members m.digits.now m.lengths.now };
 
-    ghost invariant = { λ m. Kept m.digits.now m.lengths.now m.numbers };
+    ghost invariant = { λ m. Numbered m.digits.now m.lengths.now m.numbers };
 }
 
 // The numbers of the first digits: of none, of one, and so on to n; then zeros.
@@ -57,7 +57,11 @@ impl<'a> Members<'a> {
         if !distinct(&numbers[..lengths.len()]) {
             return None;
         }
-        Some(Members { digits, lengths, numbers })
+        Some(Members {
+            digits,
+            lengths,
+            numbers,
+        })
     }
 
     // How many there are.

@@ -14,7 +14,7 @@ use address::interpret::interpret;
 use bcd::error::Refusal;
 use message::header::CommonHeader;
 use message::types::MessageType;
-use parameter::{Cursor, Place, tags};
+use parameter::{Parameters, Place, tags};
 
 // A row, and the octets that it gains beside one message.
 #[derive(Clone, Copy, Debug, PartialEq, Eq)]
@@ -31,19 +31,18 @@ pub(crate) struct Firsts {
 }
 
 // The first destination address and the first Data of a message. 12, then 5 or 6 in wire order.
-fn firsts(input: &[u8]) -> Result<Firsts, Refusal>
+fn find_firsts(input: &[u8]) -> Result<Firsts, Refusal>
     ensures { outcome_of result ≡ bounded input.now (mapped firsts (places input.now 8)) }
 {
     let mut destination = None;
     let mut data = None;
-    let mut cursor = Cursor { at: CommonHeader::SIZE };
-    while let Some((place, next)) = cursor.step(input)? {
+    for place in Parameters::new(input, CommonHeader::SIZE) {
+        let place = place?;
         match place.tag {
             tags::DESTINATION_ADDRESS => destination = destination.or(Some(place)),
             tags::DATA => data = data.or(Some(place)),
             _ => {}
         }
-        cursor = next;
     }
     Ok(Firsts { destination, data })
 }
@@ -67,7 +66,7 @@ impl Members<'_> {
     {
         form::settled_length(input)?;
         let header = CommonHeader::decode(input)?;
-        let firsts = firsts(input)?;
+        let firsts = find_firsts(input)?;
         let row = match (header.message_type, firsts.destination) {
             (MessageType::Cldt, Some(place)) => self.destination_row(place.value(input))?,
             _ => self.count(),

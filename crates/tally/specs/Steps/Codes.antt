@@ -24,6 +24,6 @@ unlike [] = true
 unlike (n ∷ ns) = not (among n ns) && unlike ns
 
 -- A list that keeps the rules, beside its members' numbers.
-pub record Kept (digits lengths numbers : List ℕ) : Type 0 where
+pub record Numbered (digits lengths numbers : List ℕ) : Type 0 where
   pub valid : valid_members digits lengths ≡ true
-  pub numbered : take (length lengths) numbers ≡ codes (members digits lengths)
+  pub same : take (length lengths) numbers ≡ codes (members digits lengths)

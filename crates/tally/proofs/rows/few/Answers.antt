@@ -1,25 +1,23 @@
--- `tally::rows::few` meets its contract: what is left and what was counted make the limit.
-use mathlib.Core.Path.{sym}
-use native.Mathlib.Omega.{arith}
+-- `tally::rows::few` meets its contract.
+use Prim.Native.Nat.{◌+◌, ◌-◌, ◌^◌, min}
 use borrow.Author.Rules.{rules}
-use borrow.Author.Tests.{lt-ltb, le-ltb}
-use Rattle.tally.specs.Members.{sum}
+use borrow.Author.Tests.{tests, ltb-true, lt-ltb}
+use mathlib.Core.Path.{◌≡◌, ◌∙◌}
+use native.Mathlib.Omega.{arith}
+use lib.Dec.{ltb}
+use Rattle.std.specs.List.{sum}
+use Rattle.std.proofs.lemmas.Iterator.{YieldsList-from_slice}
+use Rattle.std.proofs.lemmas.Iterator.Consumers.{fold_from_yields_List}
+use Rattle.bcd.proofs.Tests.{agree}
 use Rattle.tally.specs.Rows.{most_messages}
-use Rattle.tally.proofs.Summing.{sum_drop, sum_none}
+use Rattle.tally.proofs.Folds.{fold_sum}
 use Rattle.tally.proofs.rows.few.Goals as goal
 
-pub loop-i-init : goal.loop-i-init
-loop-i-init c = (search rules, search rules, omega arith)
-
-pub returns-then-left-m : goal.returns-then-left-m
-returns-then-left-m c = let ms = c.args.messages.now in
-    sym (le-ltb (sum ms) most_messages (omega (arith, c.loop-i.invariant, sum_drop c.loop-i.i ms c.loop-i-test.true, c.if-left-m.true)))
-
-pub loop-i-preserved : goal.loop-i-preserved
-loop-i-preserved c = let ms = c.args.messages.now in
-    let e = sum_drop c.loop-i.i ms c.loop-i-test.true in
-    (search rules, omega (arith, c.if-left-m.false), omega (arith, c.loop-i.invariant, e, c.if-left-m.false))
-
 pub returns : goal.returns
-returns c = let ms = c.args.messages.now in
-    sym (lt-ltb (sum ms) most_messages (omega (arith, c.loop-i.invariant, sum_none c.loop-i.i ms c.loop-i-test.false)))
+returns c =
+    let added : c.fold.result ≡ min (0 + sum c.args.messages.now) (2 ^ 64 - 1) =
+    fold_from_yields_List _ (λ a n. min (a + n) (2 ^ 64 - 1)) 0 c.fold.result c.fold.ensures.ran (YieldsList-from_slice c.args.messages.now cc) (λ a x r q k. search (rules, tests))
+    ∙ fold_sum 0 c.args.messages.now (omega arith) in
+    agree (ltb c.fold.result most_messages) (ltb (sum c.args.messages.now) most_messages)
+    (λ t. lt-ltb (sum c.args.messages.now) most_messages (omega (arith, added, ltb-true c.fold.result most_messages t)))
+    (λ t. lt-ltb c.fold.result most_messages (omega (arith, added, ltb-true (sum c.args.messages.now) most_messages t)))

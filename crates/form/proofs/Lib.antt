@@ -11,5 +11,6 @@ pub mod Standing
 pub mod Demand3
 pub mod Passes
 pub mod Measuring
-pub mod Placing
 pub mod Written
+pub mod Placing
+pub mod Whole

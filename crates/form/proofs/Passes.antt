@@ -21,7 +21,6 @@ use Rattle.address.specs.Address.{address_in, read_address, write_address, rewri
 use Rattle.message.specs.declared.header.CommonHeader.{CommonHeader}
 use Rattle.message.specs.Message.{Message, read_header, read_message, message_octets}
 use Rattle.message.proofs.Messages.{message-length}
-use Rattle.message.proofs.Listing.{framed}
 use Rattle.form.specs.Form.{is_address, is_hop_counter, settled_param, settled}
 use Rattle.form.specs.Steps.Passes.{settled_run, sum_of}
 use Rattle.form.proofs.Settling.{settled-address, settled_other, settled_counter, settled_unread}
@@ -191,25 +190,3 @@ length_small p n h e =
 -- A place's value is no longer than the place tells.
 pub value_small : (xs : List ℕ) (p : Place) → p.length ≤ most_value → length (valued xs p).value ≤ most_value
 value_small xs p h = rw (length-take p.length (drop p.start xs)) (omega arith)
-
--- a form whose parameters are known
-pub record Run (A : Alphabet) (xs : List ℕ) (h : CommonHeader) (run : ℕ) : Type 0 where
-  pub octets : List ℕ
-  pub written : mapped run_octets (settled_run A xs) ≡ accepted octets
-  pub whole : settled A xs ≡ accepted (framed h.message_type octets)
-  pub size : run ≡ length octets
-
-pub run_known :
-    (A : Alphabet) (L : Lawful A) (xs : List ℕ) (o : Octets xs) (h : CommonHeader) (run : ℕ)
-    → read_header xs ≡ accepted h
-    → accepted run ≡ mapped run_length (settled_run A xs)
-    → Run A xs h run
-unfolding message_octets
-run_known A L xs o h run e k =
-    let (qs, q, l) = mapped_inv run_length (settled_run A xs) (sym k) in
-    record {
-      octets = run_octets qs;
-      written = ap (mapped run_octets) q;
-      whole = settled_run_lem A L xs o h e ∙ ap (mapped (message_octets h.message_type)) q;
-      size = sym l ∙ sym (run_length_lem qs);
-    }

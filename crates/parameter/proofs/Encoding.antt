@@ -79,14 +79,15 @@ module _ (tag n : ℕ) (v out : List ℕ) (l : length v ≡ n) (room : padded_le
       (d last : List ℕ) (end : ℕ)
       → Begun out (two tag ++ two (n + 4) ++ v) d
       → end ≡ padded_length n
-      → last ≡ replicate (end - (n + 4)) 0
+      → last ≡ replicate (length (mid_of (n + 4) (end - (n + 4)) d)) 0
       → Begun out (param_octets (record { tag = tag; value = v })) (put_mid (n + 4) (end - (n + 4)) d last)
   unfolding param_octets
   pad_behind d last end b e zeros =
       let c : 4 + n ≡ n + 4 = omega arith in
       let same : end ≡ (n + 4 + 3) / 4 * 4 = omega (arith, e) in
       let k = (n + 4 + 3) / 4 * 4 - (n + 4) in
-      rw (zeros, same, l, c) (extend_all (replicate k 0) (n + 4) k b (simp length-append (omega arith)) (omega arith) (length-replicate k 0))
+      let lent : length (mid_of (n + 4) (end - (n + 4)) d) ≡ k = simp (length-take, length-drop) (omega (arith, b.same, same)) in
+      rw (zeros, lent, same, l, c) (extend_all (replicate k 0) (n + 4) k b (simp length-append (omega arith)) (omega arith) (length-replicate k 0))
 
   -- the tag and the length before it
   pub head_first : (d : List ℕ) → d ≡ two tag ++ drop 2 out → Begun out (two tag) d

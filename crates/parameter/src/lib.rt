@@ -155,7 +155,7 @@ pub fn wire_length(tag: u16, length: usize) -> Result<usize, Refusal>
     if 65531 < length {
         return Err(Refusal::ValueTooLong { tag, length });
     }
-    Ok((length + 4).next_multiple_of(4))
+    Ok((length + 7) / 4 * 4)
 }
 
 // The first four octets of a value as a number; none under four octets. 12.
@@ -172,6 +172,19 @@ pub fn as_u32(value: &[u8]) -> Result<Option<u32>, Refusal>
     Ok(Some(u32::from_be_bytes([value[0], value[1], value[2], value[3]])))
 }
 
+// Clears a slice of at most three octets, which padding is. No `fill` and no loop: they would be compiled to a call.
+fn clear(out: &mut [u8])
+    requires { length out.old ≤ 3 }
+    ensures { out.new ≡ replicate (length out.old) 0 }
+{
+    match out.len() {
+        0 => {}
+        1 => out.copy_from_slice(&[0; 1]),
+        2 => out.copy_from_slice(&[0; 2]),
+        _ => out.copy_from_slice(&[0; 3]),
+    }
+}
+
 // Stores tag, length and padding round a value that stands at the fifth octet, for which there is room.
 fn surround(tag: u16, length: usize, out: &mut [u8])
     requires length_le_most_value { length ≤ most_value }
@@ -180,9 +193,10 @@ fn surround(tag: u16, length: usize, out: &mut [u8])
         ≡ param_octets (param tag (take length (drop 4 out.old))) ++ drop (padded_length length) out.old }
 {
     let wire = length + 4;
+    let padded = wire.next_multiple_of(4);
     out[..2].copy_from_slice(&tag.to_be_bytes());
     out[2..4].copy_from_slice(&(wire as u16).to_be_bytes());
-    out[wire..wire.next_multiple_of(4)].fill(0);
+    clear(&mut out[wire..padded]);
 }
 
 // Stores one parameter, for which there is room, at the front of a slice.

@@ -19,9 +19,8 @@ returns c = let tag = c.args.tag in
     let l = framed-length n out room in
     let first : c.copy_from_slice.new.self ≡ two tag = search rules in
     let second : c.copy_from_slice-2.new.self ≡ two (n + 4) = search rules in
-    let zeros : c.fill.new.self ≡ replicate (c.next_multiple_of.result - (n + 4)) 0 = search rules in
     let b1 = head_first tag n v out l room _ (ap (λ (p : List ℕ). p ++ drop 2 out) first) in
     let b2 = head_second tag n v out l room _ _ b1 second in
-    let b3 = pad_behind tag n v out l room _ _ c.next_multiple_of.result (value-behind tag n v out l room _ refl b2) (omega (arith, c.next_multiple_of.ensures)) zeros in
+    let b3 = pad_behind tag n v out l room _ _ c.next_multiple_of-padded.result (value-behind tag n v out l room _ refl b2) (omega (arith, c.next_multiple_of-padded.ensures)) c.clear.ensures in
     let p : Param = record { tag = tag; value = v } in
     b3.holds ∙ ap (λ (k : ℕ). param_octets p ++ drop k out) (octets-length p ∙ ap padded_length l)

@@ -4,18 +4,16 @@ use mathlib.Core.Path.{◌≡◌, refl, sym, ap, ◌∙◌}
 use mathlib.Core.Bool.{true, false}
 use mathlib.Core.List.{List, [], ◌∷◌, ◌++◌, map, map-append}
 use native.Mathlib.Omega.{arith}
-use lib.ListN.{length, take, drop, length-append, length-take, length-drop}
+use lib.ListN.{length, drop, length-append, length-take, length-drop}
 use borrow.Rule.Slice.PartMut.{mid_of, put_mid}
-use Rattle.bcd.specs.Outcome.{Outcome, accepted, Octets, most, deliver}
+use Rattle.bcd.specs.Outcome.{Outcome, accepted, bounded, Octets, most, deliver}
 use Rattle.bcd.proofs.Outcomes.{accepted_inj, mapped_inv, deliver_buffer, deliver_answer, octets_at}
-use Rattle.bcd.proofs.Writing.{Begun, untouched, extend}
+use Rattle.bcd.proofs.Writing.{Begun, untouched, extend, delivered}
 use Rattle.parameter.specs.Parameter.{Param, padded_length, param_octets, run_octets, run_length, most_value, encode_param, two_at}
-use Rattle.parameter.specs.Walk.{found, step_at, steps, places, valued}
+use Rattle.parameter.specs.Walk.{found, step_at, places, valued}
 use Rattle.parameter.specs.declared.Place.{Place}
-use Rattle.parameter.proofs.Walking.{step_inv}
-use Rattle.parameter.proofs.Reaching.{Reached, reached_start, reached_next}
+use Rattle.parameter.proofs.Reaching.{Reached, reached_start, walk_found, walk_more}
 use Rattle.parameter.proofs.RoundTrip.{run_length_lem, run_octets-append, run_length-append}
-use Rattle.parameter.proofs.Running.{part_of}
 use Rattle.address.specs.Listing.{is_other, other_places}
 use Rattle.address.specs.Steps.Plan.{Walked, others_octets}
 use Rattle.address.specs.declared.parts.Parts.{Parts}
@@ -36,16 +34,15 @@ module _ (v : List ℕ) (p : Place) (out : List ℕ) where
       → p.start + p.length ≤ length v
       → p.length ≤ most_value
       → run_length (map (valued v) (other_places (p ∷ []))) ≤ length out
-      → record { answer = answer; buffer = last } ≡ deliver (encode_param (record { tag = p.tag; value = take (p.start + p.length - p.start) (drop p.start v) })) out
+      → record { answer = answer; buffer = last } ≡ deliver (encode_param (valued v p)) out
       → n ≡ padded_length p.length
       → record { answer = accepted n; buffer = last } ≡ deliver (accepted (run_octets (map (valued v) (other_places (p ∷ []))))) out
   unfolding run_length
   other_put {answer} {last} {n} other inside small room e m =
       let l = value-length v p inside in
       let long : padded_length p.length ≤ length out = let r = rw (other, l) at room in omega arith in
-      let written = e ∙ ap (λ w. deliver (encode_param (record { tag = p.tag; value = w })) out) (part_of p.start p.length v) in
       let size : padded_length (length (valued v p).value) ≡ n = rw (l, m) in
-      let put = encoded (valued v p) out (rw l small) (rw l long) written ∙ ap (λ (k : ℕ). param_octets (valued v p) ++ drop k out) size in
+      let put = encoded (valued v p) out (rw l small) (rw l long) e ∙ ap (λ (k : ℕ). param_octets (valued v p) ++ drop k out) size in
       rw other (one_delivered (valued v p) n last out put size (omega arith))
 
   pub other_absent : is_other p.tag ≡ false → record { answer = accepted 0; buffer = out } ≡ deliver (accepted (run_octets (map (valued v) (other_places (p ∷ []))))) out
@@ -57,23 +54,23 @@ others_of v ps = map (valued v) (other_places ps)
 others_joined : (v : List ℕ) (ps qs : List Place) → others_of v (ps ++ qs) ≡ others_of v ps ++ others_of v qs
 others_joined v ps qs = ap (map (valued v)) (others-append ps qs) ∙ map-append (valued v) (other_places ps) (other_places qs)
 
--- The others among the first n sub-parameters are written.
-pub record Copying (v out d : List ℕ) (n cursor at : ℕ) : Type 0 where
-  pub reached : Reached v 4 n cursor
+-- The others among the sub-parameters that a walk has come to are written.
+pub record Copying (v out d : List ℕ) (cursor at : ℕ) : Type 0 where
+  pub reached : Reached v 4 cursor
   pub begun : Begun out (run_octets (others_of v reached.done)) d
   pub place : length (run_octets (others_of v reached.done)) ≡ at
 
-pub copying_start : (v out : List ℕ) → Copying v out out 0 4 0
-unfolding reached_start run_octets
+pub copying_start : (v out : List ℕ) → Copying v out out 4 0
+unfolding run_octets
 copying_start v out = record { reached = reached_start v 4; begun = untouched out; place = refl }
 
 -- The places that a walk has come to are the front of all.
-pub reached_front : {v : List ℕ} {n at : ℕ} (ps : List Place) (r : Reached v 4 n at) → places v 4 ≡ accepted ps → (qs : List Place) × (r.done ++ qs ≡ ps)
-reached_front {v} {n} {at} ps r e =
-    let (qs, h, same) = mapped_inv (λ qs. r.done ++ qs) (steps (length v - n) v at) (sym r.left ∙ e) in
+pub reached_front : {v : List ℕ} {at : ℕ} (ps : List Place) (r : Reached v 4 at) → places v 4 ≡ accepted ps → (qs : List Place) × (r.done ++ qs ≡ ps)
+reached_front {v} {at} ps r e =
+    let (qs, h, same) = mapped_inv (λ qs. r.done ++ qs) (places v at) (sym r.left ∙ e) in
     (qs, same)
 
-pub copying_few : {v out d : List ℕ} {s : Parts} {n cursor at : ℕ} → Walked v s → Copying v out d n cursor at → at ≤ most
+pub copying_few : {v out d : List ℕ} {s : Parts} {cursor at : ℕ} → Walked v s → Copying v out d cursor at → at ≤ most
 copying_few {v} k y =
     let (qs, same) = reached_front k.places y.reached k.walked in
     let sum = run_length-append (others_of v y.reached.done) (others_of v qs) in
@@ -93,14 +90,14 @@ pub record Turn (v d : List ℕ) (p : Place) (at : ℕ) : Type 0 where
   pub small : p.length ≤ most_value
   pub room : at + run_length (others_of v (p ∷ [])) ≤ length d
 
-module _ {v out d : List ℕ} {s : Parts} {n cursor at : ℕ} (k : Walked v s) (y : Copying v out d n cursor at) (fits : s.other_length ≤ length out) (h : n < length v)
-    (p : Place) (next : ℕ) (e : step_at v cursor ≡ accepted (found p next)) where
-  abbrev then_reached : Reached v 4 (n + 1) next
-  then_reached = reached_next y.reached h p next e
+module _ {v out d : List ℕ} {s : Parts} {cursor at : ℕ} (k : Walked v s) (y : Copying v out d cursor at) (fits : s.other_length ≤ length out)
+    (p : Place) (next : ℕ) (e : accepted (found p next) ≡ bounded v (step_at v cursor)) where
+  abbrev then_reached : Reached v 4 next
+  then_reached = walk_more y.reached p next e
 
   pub copying_turn : Turn v d p at
   copying_turn =
-      let f = step_inv v cursor e in
+      let f = walk_found v cursor e in
       let (qs, same) = reached_front k.places then_reached k.walked in
       let first = run_length-append (others_of v y.reached.done) (others_of v (p ∷ [])) in
       let sum = run_length-append (others_of v (y.reached.done ++ (p ∷ []))) (others_of v qs) in
@@ -117,7 +114,7 @@ module _ {v out d : List ℕ} {s : Parts} {n cursor at : ℕ} (k : Walked v s) (
       (last : List ℕ) (r m : ℕ)
       → record { answer = accepted r; buffer = last } ≡ deliver (accepted (run_octets (others_of v (p ∷ [])))) (mid_of at (length d - at) d)
       → m ≡ at + r
-      → Copying v out (put_mid at (length d - at) d last) (n + 1) next m
+      → Copying v out (put_mid at (length d - at) d last) next m
   copying_next last r m put sum =
       let t = copying_turn in
       let os = run_octets (others_of v (p ∷ [])) in
@@ -133,5 +130,5 @@ module _ {v out d : List ℕ} {s : Parts} {n cursor at : ℕ} (k : Walked v s) (
         place = rw (joined, length-append (run_octets (others_of v y.reached.done)) os) (omega (arith, y.place));
       }
 
-pub copied : {v out d : List ℕ} {n cursor at : ℕ} (y : Copying v out d n cursor at) → places v 4 ≡ accepted y.reached.done → d ≡ others_octets v ++ drop (length (others_octets v)) out
-copied {v} y e = rw (done-octets v y.reached.done e) y.begun.holds
+pub copied : {v out d : List ℕ} {s : Parts} {cursor at : ℕ} (k : Walked v s) (y : Copying v out d cursor at) → places v 4 ≡ accepted y.reached.done → record { answer = accepted at; buffer = d } ≡ deliver (accepted (others_octets v)) out
+copied {v} {at = at} k y e = rw (done-octets v y.reached.done e) (delivered at y.begun y.place)

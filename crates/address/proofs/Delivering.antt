@@ -1,7 +1,6 @@
 -- An address value that was planned, written part by part.
 use Prim.Native.Nat.{ℕ, ◌+◌, ◌-◌, ◌*◌, ◌/◌, ◌%◌, ◌≤◌, ◌<◌}
 use mathlib.Core.Path.{◌≡◌, refl, sym, ap, ◌∙◌, subst}
-use mathlib.Core.Bool.{Bool, true, false}
 use mathlib.Core.List.{List, [], ◌∷◌, ◌++◌, map, append_assoc, append-nil}
 use native.Mathlib.Omega.{arith}
 use lib.ListN.{length, get_or, set, drop, length-append}
@@ -18,6 +17,8 @@ use Rattle.address.specs.Steps.Kept.{kept_title, kept_code, kept_sub, kept_piece
 use Rattle.address.specs.Again.{with_unknown}
 use Rattle.address.specs.Listing.{other_places}
 use Rattle.address.specs.Steps.Plan.{Ready, head_octets, wire_of, digits_by, Plan, others_octets}
+use Rattle.address.specs.declared.interpret.Digits.{Digits}
+use Rattle.address.specs.declared.interpret.Digits.TheVariants as D
 use Rattle.address.specs.declared.parts.Parts.{Parts}
 use Rattle.address.proofs.Others.{count_known}
 use Rattle.address.proofs.Unknown.{alike, subs-same}
@@ -171,7 +172,7 @@ module _ {v : List ℕ} {s : Parts} {total : ℕ} (p : Plan with_unknown v s tot
       let same = ap (wire_of v) q.whole in
       parts-done (head_octets v) q.titled codes subs others at total b place room put (ap length same ∙ wire_length_lem v p.params ∙ p.size)
       ∙ ap (λ w. deliver (accepted w) out) same
-      ∙ ap (λ (o : Outcome (List ℕ)). deliver o out) (sym (plan_octets (alike false) 0 p))
+      ∙ ap (λ (o : Outcome (List ℕ)). deliver o out) (sym (plan_octets (alike D.AsRead) 0 p))
 
   -- There are no others.
   pub planned_none :
@@ -185,23 +186,23 @@ module _ {v : List ℕ} {s : Parts} {total : ℕ} (p : Plan with_unknown v s tot
       let same = ap (wire_of v) q.whole in
       parts_none (head_octets v) q.titled codes subs others total none b (ap length same ∙ wire_length_lem v p.params ∙ p.size)
       ∙ ap (λ w. deliver (accepted w) out) same
-      ∙ ap (λ (o : Outcome (List ℕ)). deliver o out) (sym (plan_octets (alike false) 0 p))
+      ∙ ap (λ (o : Outcome (List ℕ)). deliver o out) (sym (plan_octets (alike D.AsRead) 0 p))
 
 -- A plan with checked digits is one without.
-pub as_read : (checked : Bool) {v : List ℕ} {s : Parts} {total : ℕ} → Plan (digits_by checked) v s total → Plan with_unknown v s total
-as_read true {v} {s} p = record {
+pub as_read : (digits : Digits) {v : List ℕ} {s : Parts} {total : ℕ} → Plan (digits_by digits) v s total → Plan with_unknown v s total
+as_read D.Checked {v} {s} p = record {
   read = p.read;
   params = p.params;
   written = subs-same (kept_pieces built_in v s p.read.known.places) p.params p.written;
   size = p.size;
   fits = p.fits;
 }
-as_read false p = p
+as_read D.AsRead p = p
 
 -- It is written the same; and the tag is told only where the value is too long.
 pub any_tag :
-    (checked : Bool) {v : List ℕ} {s : Parts} {total : ℕ} (tag : ℕ) (p : Plan (digits_by checked) v s total)
-    → after (read_address built_in v) (write_address with_unknown 0) ≡ after (read_address built_in v) (write_address (digits_by checked) tag)
+    (digits : Digits) {v : List ℕ} {s : Parts} {total : ℕ} (tag : ℕ) (p : Plan (digits_by digits) v s total)
+    → after (read_address built_in v) (write_address with_unknown 0) ≡ after (read_address built_in v) (write_address (digits_by digits) tag)
 unfolding as_read
-any_tag true tag p = plan_octets (alike false) 0 (as_read true p) ∙ sym (plan_octets (alike true) tag p)
-any_tag false tag p = plan_octets (alike false) 0 p ∙ sym (plan_octets (alike false) tag p)
+any_tag D.Checked tag p = plan_octets (alike D.AsRead) 0 (as_read D.Checked p) ∙ sym (plan_octets (alike D.Checked) tag p)
+any_tag D.AsRead tag p = plan_octets (alike D.AsRead) 0 p ∙ sym (plan_octets (alike D.AsRead) tag p)

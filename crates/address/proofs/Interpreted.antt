@@ -1,27 +1,27 @@
 -- An address value that was read, by the parts that the walk keeps.
 use Prim.Native.Nat.{ℕ}
 use mathlib.Core.Path.{◌≡◌, refl, sym, ap, ◌∙◌}
-use mathlib.Core.Bool.{Bool, true, false}
+use mathlib.Core.Bool.{true}
+use Rattle.std.specs.Prelude.{Option, None, Some}
 use mathlib.Core.List.{List, map}
 use borrow.Author.Tests.{leb-true}
 use lib.Dec.{leb}
 use lib.ListN.{length, get_or}
-use Rattle.bcd.specs.Outcome.{Outcome, accepted, refused, pick, Octets, most}
+use Rattle.bcd.specs.Outcome.{Outcome, accepted, refused, Octets, most}
 use Rattle.bcd.specs.Digits.{built_in}
-use Rattle.bcd.proofs.Outcomes.{never, after_inv, mapped_inv, demand_inv}
+use Rattle.bcd.proofs.Outcomes.{accepted_inj, never, after_inv, mapped_inv, demand_inv, bounded-within}
 use Rattle.parameter.specs.Parameter.{two_at}
 use Rattle.parameter.specs.Walk
 use Rattle.parameter.specs.Walk.{valued, places}
 use Rattle.parameter.specs.declared.Place.{Place}
 use Rattle.parameter.proofs.Structure.{places-parameters}
 use Rattle.address.specs.Address.{Address, address_with, address_in, read_address}
-use Rattle.address.specs.Parts.{is_short, nothing, note_all, interpreted}
-use Rattle.address.specs.Steps.Kept.{judged, short_refusal}
+use Rattle.address.specs.Parts.{nothing, note_all, interpreted}
+use Rattle.address.specs.Steps.Kept.{judged, short_refusal, kept_title}
 use Rattle.address.specs.Steps.Plan.{Walked, Read}
-use Rattle.address.specs.declared.parts.Short.{Short}
 use Rattle.address.specs.declared.parts.Parts.{Parts}
 use Rattle.address.proofs.Keeping.{piece_at}
-use Rattle.address.proofs.Interpreting.{read-parts}
+use Rattle.address.proofs.Interpreting.{title_holds, read-parts}
 use Rattle.address.proofs.Planning.{walked}
 use Rattle.address.proofs.Rewriting.{HasAddress, address_inv}
 
@@ -32,8 +32,8 @@ module _ {v : List ℕ} {s : Parts} (k : Walked v s) where
   pub read_known : read_address built_in v ≡ judged s.short (accepted address)
   read_known = rw k.parts (read-parts built_in v k.places k.within k.long k.routing k.walked)
 
-  pub read_short : is_short s.short ≡ true → read_address built_in v ≡ short_refusal s.short
-  read_short e = read_known ∙ rw e
+  pub read_short : (p : Place) → s.short ≡ Some p → read_address built_in v ≡ short_refusal p
+  read_short p e = read_known ∙ rw e
 
 pub read_whole : {v : List ℕ} {s : Parts} (r : Read v s) → read_address built_in v ≡ accepted (address r.known)
 read_whole r = read_known r.known ∙ rw r.whole
@@ -48,12 +48,9 @@ unfolding interpreted
 refused_interpreted v n vs e = rw e
 
 -- And the other way round.
-unjudged : {X : Type 0} (x y : X) (k : Short) → judged k (accepted x) ≡ accepted y → is_short k ≡ false
-unjudged {X} x y k e = go (is_short k) e
-  where
-    go : (t : Bool) → pick {A = Outcome X} t (short_refusal k) (accepted x) ≡ accepted y → t ≡ false
-    go true e = absurd (never e)
-    go false e = refl
+unjudged : {X : Type 0} (x y : X) (k : Option Place) → judged k (accepted x) ≡ accepted y → k ≡ None
+unjudged x y None e = refl
+unjudged x y (Some p) e = absurd (never e)
 
 record Placed (v : List ℕ) (a : Address) : Type 0 where
   within : leb (length v) most ≡ true
@@ -93,3 +90,10 @@ interpreted_refused v n vs e = go (read_address built_in v) refl
         let p = placed v a h in
         absurd (never {a = note_all nothing p.places} (e ∙ rw (h, p.walked)))
     go (refused m ws) h = h ∙ again (e ∙ rw h)
+
+-- The title that is kept is the address's.
+pub title_kept : {v : List ℕ} {s : Parts} (r : Read v s) (a : Address) → read_address built_in v ≡ accepted a → kept_title built_in v s.title ≡ a.title
+unfolding address_with
+title_kept {v} r a e =
+    rw r.known.parts (sym (title_holds built_in v r.known.places))
+    ∙ ap (λ (a : Address). a.title) (accepted_inj (sym (read_whole r) ∙ e))

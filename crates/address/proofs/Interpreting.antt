@@ -2,61 +2,55 @@
 use Prim.Native.Nat.{ℕ, ◌+◌, ◌≤◌, ◌<◌}
 use mathlib.Core.Path.{◌≡◌, refl, sym, ap, ◌∙◌}
 use mathlib.Core.Bool.{Bool, true, false}
-use mathlib.Core.Logic.{⊎_elim}
 use Rattle.std.specs.Prelude.{None, Some}
 use mathlib.Core.List.{List, [], ◌∷◌, map}
 use native.Mathlib.Omega.{arith}
 use borrow.Author.Tests.{le-leb, lt-leb}
-use lib.ListN.{length, get_or, take, drop}
+use lib.ListN.{length, get_or, drop}
 use Rattle.bcd.specs.Outcome.{accepted, refused, pick, mapped, All, most}
 use Rattle.bcd.specs.Digits.{Alphabet}
-use Rattle.bcd.proofs.Outcomes.{never, le_or_lt, bounded-within, bounded_beyond}
-use Rattle.bcd.specs.declared.error.Refusal.{Refusal}
+use Rattle.bcd.proofs.Outcomes.{bounded-within, bounded_beyond}
 use Rattle.parameter.specs.Parameter.{run_length, two_at, four_in}
 use Rattle.parameter.specs.Walk.{valued, places, parameters}
 use Rattle.parameter.specs.declared.Place.{Place}
 use Rattle.parameter.proofs.Walking.{places_inside}
 use Rattle.parameter.proofs.Structure.{places-parameters}
 use Rattle.address.specs.Address.{title_at, as_title, as_code, as_sub, last, others_in, routing_in, address_with, address_in, read_address, pieces}
-use Rattle.address.specs.Records.{routing_of}
-use Rattle.address.specs.declared.RoutingIndicator.{RoutingIndicator}
-use Rattle.address.specs.declared.Routing.{Routing}
-use Rattle.address.specs.declared.Routing.TheVariants as R
-use Rattle.address.specs.Parts.{nothing, noted_title, noted_code, noted_ssn, noted_other, noted, note_all, kept_place}
+use Rattle.address.specs.Parts.{nothing, noted_title, noted_code, noted_ssn, noted_other, noted, note_all}
 use Rattle.address.specs.Steps.Kept.{judged, kept_title, kept_code, kept_sub, kept_pieces}
 use Rattle.address.specs.Listing.{other_places}
 use Rattle.address.specs.declared.parts.Parts.{Parts}
 use Rattle.parameter.proofs.Records.{value-length}
-use Rattle.address.proofs.Keeping.{kinds, Inside, Behind, piece_by, piece_at, pieces-judged, judged-mapped, last_holds}
+use Rattle.address.proofs.Keeping.{kinds, Inside, piece_by, piece_at, pieces-judged, judged-mapped, last_holds}
 
 -- the four ways to note a sub-parameter
 abbrev pub by : Bool → Bool → Bool → Parts → Place → Parts
 by a b c s p = pick a (noted_title s p) (pick b (noted_code s p) (pick c (noted_ssn s p) (noted_other s p)))
 
 module _ (A : Alphabet) (v : List ℕ) (ps : List Place) where
-  pub title_holds : All Behind ps → last as_title (map (piece_at A v) ps) ≡ kept_title A v (note_all nothing ps).title
+  pub title_holds : last as_title (map (piece_at A v) ps) ≡ kept_title A v (note_all nothing ps).title
   unfolding noted
-  title_holds h =
-      last_holds 0x8001 (piece_at A v) as_title (λ start length. title_at A (take length (drop start v))) (λ s. s.title)
+  title_holds =
+      last_holds 0x8001 (piece_at A v) as_title (λ p. title_at A (valued v p).value) (λ s. s.title)
       (λ p. kinds (λ a b c. as_title (piece_by A v a b c p) ≡ pick a (Some (title_at A (valued v p).value)) None) p.tag refl refl refl refl)
-      (λ s p. kinds (λ a b c. (by a b c s p).title ≡ pick a (kept_place p) s.title) p.tag refl refl refl refl)
-      nothing ps h
+      (λ s p. kinds (λ a b c. (by a b c s p).title ≡ pick a (Some p) s.title) p.tag refl refl refl refl)
+      nothing ps
 
-  pub code_holds : All Behind ps → last as_code (map (piece_at A v) ps) ≡ kept_code v (note_all nothing ps).code
+  pub code_holds : last as_code (map (piece_at A v) ps) ≡ kept_code v (note_all nothing ps).code
   unfolding noted
-  code_holds h =
-      last_holds 0x8002 (piece_at A v) as_code (λ start length. four_in (take length (drop start v))) (λ s. s.code)
+  code_holds =
+      last_holds 0x8002 (piece_at A v) as_code (λ p. four_in (valued v p).value) (λ s. s.code)
       (λ p. kinds (λ a b c. as_code (piece_by A v a b c p) ≡ pick b (Some (four_in (valued v p).value)) None) p.tag refl refl refl refl)
-      (λ s p. kinds (λ a b c. (by a b c s p).code ≡ pick b (kept_place p) s.code) p.tag refl refl refl refl)
-      nothing ps h
+      (λ s p. kinds (λ a b c. (by a b c s p).code ≡ pick b (Some p) s.code) p.tag refl refl refl refl)
+      nothing ps
 
-  pub sub_holds : All Behind ps → last as_sub (map (piece_at A v) ps) ≡ kept_sub v (note_all nothing ps).ssn
+  pub sub_holds : last as_sub (map (piece_at A v) ps) ≡ kept_sub v (note_all nothing ps).ssn
   unfolding noted
-  sub_holds h =
-      last_holds 0x8003 (piece_at A v) as_sub (λ start length. get_or (take length (drop start v)) 3 0) (λ s. s.ssn)
+  sub_holds =
+      last_holds 0x8003 (piece_at A v) as_sub (λ p. get_or (valued v p).value 3 0) (λ s. s.ssn)
       (λ p. kinds (λ a b c. as_sub (piece_by A v a b c p) ≡ pick c (Some (get_or (valued v p).value 3 0)) None) p.tag refl refl refl refl)
-      (λ s p. kinds (λ a b c. (by a b c s p).ssn ≡ pick c (kept_place p) s.ssn) p.tag refl refl refl refl)
-      nothing ps h
+      (λ s p. kinds (λ a b c. (by a b c s p).ssn ≡ pick c (Some p) s.ssn) p.tag refl refl refl refl)
+      nothing ps
 
   pub others_hold : others_in (map (piece_at A v) ps) ≡ map (valued v) (other_places ps)
   others_hold = go ps
@@ -69,9 +63,9 @@ module _ (A : Alphabet) (v : List ℕ) (ps : List Place) where
           (go ps) (go ps) (go ps) (ap (λ qs. valued v p ∷ qs) (go ps))
 
   -- The pieces that hold are those that are written.
-  pub kept_pieces_lem : All Behind ps → (routing bits : ℕ) → pieces (address_with routing bits (map (piece_at A v) ps)) ≡ kept_pieces A v (note_all nothing ps) ps
+  pub kept_pieces_lem : (routing bits : ℕ) → pieces (address_with routing bits (map (piece_at A v) ps)) ≡ kept_pieces A v (note_all nothing ps) ps
   unfolding pieces address_with kept_pieces
-  kept_pieces_lem h routing bits = rw (title_holds h, code_holds h, sub_holds h, others_hold)
+  kept_pieces_lem routing bits = rw (title_holds, code_holds, sub_holds, others_hold)
 
   -- An address value whose sub-parameters are at these places.
   pub read-parts :
@@ -132,16 +126,3 @@ module _ (A : Alphabet) (v : List ℕ) where
       read_unwalked n vs routing e =
           let params : parameters (drop 4 v) ≡ refused n vs = sym (places-parameters v 4) ∙ ap (mapped (map (valued v))) e in
           bounded-within v (address_in A v) within ∙ rw (le-leb 4 (length v) long, le-leb (two_at v 0) 4 routing, params)
-
--- The routing indicator, by the answer of the code.
-pub routing_in_lem : (n : ℕ) → n ≤ 4 → routing_in n ≡ accepted n
-routing_in_lem n h = rw (le-leb n 4 h)
-
-routing_out : (n : ℕ) → 4 < n → routing_in n ≡ refused 8 (n ∷ [])
-routing_out n h = rw (lt-leb n 4 h)
-
-pub routing_known : (n : ℕ) (r : Routing) (i : RoutingIndicator) → routing_of r ≡ routing_in n → r ≡ R.Indicator i → n ≤ 4
-routing_known n r i e f = ⊎_elim (λ h. h) (λ h. absurd (never (sym (sym (ap routing_of f) ∙ e ∙ routing_out n h)))) (le_or_lt n 4)
-
-pub routing_unknown : (n : ℕ) (r : Routing) (x : Refusal) → routing_of r ≡ routing_in n → r ≡ R.Refused x → 4 < n
-routing_unknown n r x e f = ⊎_elim (λ h. absurd (never (sym (ap routing_of f) ∙ e ∙ routing_in_lem n h))) (λ h. h) (le_or_lt n 4)

@@ -4,7 +4,7 @@ use Prim.Native.Nat.{ℕ, ◌+◌, ◌≤◌, ◌<◌}
 use mathlib.Core.Path.{◌≡◌, refl, ap, ◌∙◌}
 use mathlib.Core.Bool.{Bool, true, false}
 use mathlib.Core.Logic.{◌⊎◌, inl, inr}
-use Rattle.std.specs.Prelude.{Option, None, Some}
+use Rattle.std.specs.Prelude.{Option, None, Some, option_map}
 use mathlib.Core.List.{List, [], ◌∷◌, ◌++◌, map}
 use native.Mathlib.Omega.{arith}
 use borrow.Author.Tests.{le-leb, lt-leb, lt-ltb, le-ltb, ne_eqb, eqb-true}
@@ -20,11 +20,8 @@ use Rattle.parameter.specs.declared.Place.{Place}
 use Rattle.parameter.proofs.Walking.{steps_induct}
 use Rattle.parameter.proofs.Records.{value-length}
 use Rattle.address.specs.Address.{title_at, title_in, four_octets, Piece, title, code, sub, other, piece_in, later, last}
-use Rattle.address.specs.Records.{flagged}
-use Rattle.address.specs.Parts.{kept_place, is_kept, short_place, is_short, sooner, noted_title, noted_code, noted_ssn, noted_other, noted, note_all}
+use Rattle.address.specs.Parts.{sooner, noted_title, noted_code, noted_ssn, noted_other, noted, note_all}
 use Rattle.address.specs.Steps.Kept.{short_by, short_refusal, judged}
-use Rattle.address.specs.declared.parts.Kept.{Kept}
-use Rattle.address.specs.declared.parts.Short.{Short}
 use Rattle.address.specs.declared.parts.Parts.{Parts}
 
 -- a fact of the three tests of a tag, by the four kinds
@@ -51,50 +48,23 @@ kinds P t a b c d = first (eqb t 0x8001) refl
         rw (ne_eqb t 0x8002 (λ g. omega arith), ne_eqb t 0x8003 (λ g. omega arith)) a
     first false e = second (eqb t 0x8002) refl
 
--- the same, where the three tags are known not to be 0
-pub kinds-tagged :
-    (P : Bool → Bool → Bool → Type 0) (t : ℕ)
-    → (0 < t → P true false false)
-    → (0 < t → P false true false)
-    → (0 < t → P false false true)
-    → P false false false
-    → P (eqb t 0x8001) (eqb t 0x8002) (eqb t 0x8003)
-kinds-tagged P t a b c d = on (le_or_lt t 0)
-  where
-    on : (t ≤ 0) ⊎ (0 < t) → P (eqb t 0x8001) (eqb t 0x8002) (eqb t 0x8003)
-    on (inl l) = let e : t ≡ 0 = omega arith in rw e d
-    on (inr l) = kinds P t (a l) (b l) (c l) d
-
 -- the least octets that a value has by its tag
 abbrev least : Place → ℕ
 least p = pick (eqb p.tag 0x8001) 8 (pick (eqb p.tag 0x8002) 4 (pick (eqb p.tag 0x8003) 4 0))
-
-short-tagged : (p : Place) → p.length < least p → 0 < p.tag
-short-tagged p = kinds-tagged (λ a b c. p.length < pick a 8 (pick b 4 (pick c 4 0)) → 0 < p.tag) p.tag (λ l h. l) (λ l h. l) (λ l h. l) (λ h. absurd (omega arith))
 
 pub note_short : (s : Parts) (p : Place) → (noted s p).short ≡ sooner s.short p (least p)
 unfolding noted
 note_short s p =
     kinds (λ a b c. (pick a (noted_title s p) (pick b (noted_code s p) (pick c (noted_ssn s p) (noted_other s p)))).short
-    ≡ sooner s.short p (pick a 8 (pick b 4 (pick c 4 0)))) p.tag refl refl refl (unshort s.short (is_short s.short) refl)
+    ≡ sooner s.short p (pick a 8 (pick b 4 (pick c 4 0)))) p.tag refl refl refl (unshort s.short)
   where
-    unshort : (k : Short) (t : Bool) → is_short k ≡ t → k ≡ sooner k p 0
-    unshort k true e = rw e
-    unshort k false e = rw (e, le-ltb p.length 0 (omega arith))
+    unshort : (k : Option Place) → k ≡ sooner k p 0
+    unshort None = rw (le-ltb p.length 0 (omega arith))
+    unshort (Some k) = refl
 
-pub judged-mapped : {X Y : Type 0} (f : X → Y) (k : Short) (o : Outcome X) → mapped f (judged k o) ≡ judged k (mapped f o)
-judged-mapped f k o = go (is_short k) refl
-  where
-    go : (t : Bool) → is_short k ≡ t → mapped f (judged k o) ≡ judged k (mapped f o)
-    go true e = rw e
-    go false e = rw e
-
-pub judged-after : {X Y : Type 0} (f : X → Outcome Y) (k : Short) (o : Outcome X) → after (judged k o) f ≡ judged k (after o f)
-judged-after f k o = go (is_short k) refl
-  where
-    go : (t : Bool) → is_short k ≡ t → after (judged k o) f ≡ judged k (after o f)
-    go true e = rw e
-    go false e = rw e
+pub judged-mapped : {X Y : Type 0} (f : X → Y) (k : Option Place) (o : Outcome X) → mapped f (judged k o) ≡ judged k (mapped f o)
+judged-mapped f None o = refl
+judged-mapped f (Some k) o = refl
 
 module _ (v : List ℕ) where
   abbrev pub Inside : Place → Type 0
@@ -130,14 +100,14 @@ module _ (A : Alphabet) (v : List ℕ) where
         (λ h. rw (le-leb 4 (length (valued v p).value) (rw (value-length v p inside) h)))
         (λ h. refl)
 
-    piece_short : p.length < least p → piece_in A (valued v p) ≡ short_refusal (short_place p)
+    piece_short : p.length < least p → piece_in A (valued v p) ≡ short_refusal p
     unfolding piece_in title_in
     piece_short = kinds (λ a b c. p.length < pick a 8 (pick b 4 (pick c 4 0)) →
         pick a (mapped (λ t. title t ∷ []) (title_in A (valued v p).value))
         (pick b (four_octets (valued v p) (code (four_in (valued v p).value)))
         (pick c (four_octets (valued v p) (sub (get_or (valued v p).value 3 0)))
         (accepted (other (valued v p) ∷ []))))
-        ≡ refused (short_by a (short_place p)).0 (short_by a (short_place p)).1) p.tag
+        ≡ refused (short_by a p).0 (short_by a p).1) p.tag
         (λ h. rw (lt-leb 8 (length (valued v p).value) (rw (value-length v p inside) h), value-length v p inside))
         (λ h. rw (lt-leb 4 (length (valued v p).value) (rw (value-length v p inside) h), value-length v p inside))
         (λ h. rw (lt-leb 4 (length (valued v p).value) (rw (value-length v p inside) h), value-length v p inside))
@@ -148,17 +118,16 @@ module _ (A : Alphabet) (v : List ℕ) where
         (s : Parts) (rest : Outcome (List Piece))
         → judged s.short (after (piece_in A (valued v p)) (λ ys. mapped (λ zs. ys ++ zs) rest))
         ≡ mapped (λ zs. piece_at p ∷ zs) (judged (noted s p).short rest)
-    piece_judged s rest = rw (note_short s p) (on (is_short s.short) refl (le_or_lt (least p) p.length))
+    piece_judged s rest = rw (note_short s p) (on s.short (le_or_lt (least p) p.length))
       where
-        Goal : Type 0
-        Goal =
-            judged s.short (after (piece_in A (valued v p)) (λ ys. mapped (λ zs. ys ++ zs) rest))
-            ≡ mapped (λ zs. piece_at p ∷ zs) (judged (sooner s.short p (least p)) rest)
-
-        on : (t : Bool) → is_short s.short ≡ t → (least p ≤ p.length) ⊎ (p.length < least p) → Goal
-        on true e l = rw (e, e)
-        on false e (inl l) = rw (e, piece_long l, le-ltb p.length (least p) l, e)
-        on false e (inr l) = rw (e, piece_short l, lt-ltb p.length (least p) l, lt-ltb 0 p.tag (short-tagged p l))
+        on :
+            (k : Option Place)
+            → (least p ≤ p.length) ⊎ (p.length < least p)
+            → judged k (after (piece_in A (valued v p)) (λ ys. mapped (λ zs. ys ++ zs) rest))
+            ≡ mapped (λ zs. piece_at p ∷ zs) (judged (sooner k p (least p)) rest)
+        on (Some k) l = refl
+        on None (inl l) = rw (piece_long l, le-ltb p.length (least p) l)
+        on None (inr l) = rw (piece_short l, lt-ltb p.length (least p) l)
 
   -- All of them: the first that is too short refuses.
   pub pieces-judged :
@@ -172,19 +141,6 @@ module _ (A : Alphabet) (v : List ℕ) where
       ∙ ap (mapped (λ zs. piece_at p ∷ zs)) (pieces-judged (noted s p) ps h.1)
       ∙ judged-mapped (λ zs. piece_at p ∷ zs) (note_all (noted s p) ps).short (accepted (map piece_at ps))
 
--- a value stands behind the octets in front of the sub-parameters
-abbrev pub Behind : Place → Type 0
-Behind p = 0 < p.start
-
-pub places_behind : (v : List ℕ) (ps : List Place) → places v 4 ≡ accepted ps → All Behind ps
-unfolding places
-places_behind v ps =
-    steps_induct v (λ at ps. All Behind ps) (λ at. tt) (λ at next p ps f ih. (omega (arith, f.start), ih)) (length v) 4 ps
-
--- what is kept, as a place
-abbrev pub place_of : Kept → Place
-place_of k = record { tag = 0; start = k.start; length = k.length }
-
 -- The later of three.
 pub later-later : {X : Type 0} (a b c : Option X) → later a (later b c) ≡ later (later a b) c
 later-later None b c = refl
@@ -193,29 +149,26 @@ later-later (Some x) (Some y) None = refl
 later-later (Some x) (Some y) (Some z) = refl
 
 -- Of the pieces of a tag the last one is kept, for any tag.
-module _ {X : Type 0} (tag : ℕ) (piece_of : Place → Piece) (select : Piece → Option X) (part : (start length : ℕ) → X) (field : Parts → Kept)
-    (picks : (p : Place) → select (piece_of p) ≡ pick (eqb p.tag tag) (Some (part p.start p.length)) None)
-    (keeps : (s : Parts) (p : Place) → field (noted s p) ≡ pick (eqb p.tag tag) (kept_place p) (field s)) where
-  abbrev held : Kept → Option X
-  held k = flagged (is_kept k) (part k.start k.length)
-
-  holds_one : (s : Parts) (p : Place) → 0 < p.start → later (held (field s)) (select (piece_of p)) ≡ held (field (noted s p))
-  holds_one s p h = rw (picks p, keeps s p) (go (eqb p.tag tag) (field s) (is_kept (field s)) refl)
+module _ {X : Type 0} (tag : ℕ) (piece_of : Place → Piece) (select : Piece → Option X) (part : Place → X) (field : Parts → Option Place)
+    (picks : (p : Place) → select (piece_of p) ≡ pick (eqb p.tag tag) (Some (part p)) None)
+    (keeps : (s : Parts) (p : Place) → field (noted s p) ≡ pick (eqb p.tag tag) (Some p) (field s)) where
+  holds_one : (s : Parts) (p : Place) → later (option_map part (field s)) (select (piece_of p)) ≡ option_map part (field (noted s p))
+  holds_one s p = rw (picks p, keeps s p) (go (eqb p.tag tag) (field s))
     where
-      go : (t : Bool) (k : Kept) (u : Bool) → is_kept k ≡ u → later (held k) (pick t (Some (part p.start p.length)) None) ≡ held (pick t (kept_place p) k)
-      go true k true e = rw (e, lt-ltb 0 p.start h)
-      go true k false e = rw (e, lt-ltb 0 p.start h)
-      go false k true e = rw e
-      go false k false e = rw e
+      go : (t : Bool) (k : Option Place) → later (option_map part k) (pick t (Some (part p)) None) ≡ option_map part (pick t (Some p) k)
+      go true None = refl
+      go true (Some k) = refl
+      go false None = refl
+      go false (Some k) = refl
 
-  pub last_holds : (s : Parts) (ps : List Place) → All Behind ps → later (held (field s)) (last select (map piece_of ps)) ≡ held (field (note_all s ps))
+  pub last_holds : (s : Parts) (ps : List Place) → later (option_map part (field s)) (last select (map piece_of ps)) ≡ option_map part (field (note_all s ps))
   unfolding note_all
-  last_holds s [] h = go (held (field s))
+  last_holds s [] = go (field s)
     where
-      go : (o : Option X) → later o None ≡ o
+      go : (k : Option Place) → later (option_map part k) None ≡ option_map part k
       go None = refl
-      go (Some x) = refl
-  last_holds s (p ∷ ps) h =
-      later-later (held (field s)) (select (piece_of p)) (last select (map piece_of ps))
-      ∙ ap (λ o. later o (last select (map piece_of ps))) (holds_one s p h.0)
-      ∙ last_holds (noted s p) ps h.1
+      go (Some k) = refl
+  last_holds s (p ∷ ps) =
+      later-later (option_map part (field s)) (select (piece_of p)) (last select (map piece_of ps))
+      ∙ ap (λ o. later o (last select (map piece_of ps))) (holds_one s p)
+      ∙ last_holds (noted s p) ps

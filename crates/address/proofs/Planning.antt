@@ -3,11 +3,11 @@ use Prim.Native.Nat.{ℕ, ◌+◌, ◌-◌, ◌*◌, ◌/◌, ◌≤◌, ◌<◌
 use mathlib.Core.Path.{◌≡◌, refl, sym, ap, ap₂, ◌∙◌}
 use mathlib.Core.Bool.{Bool, true, false}
 use mathlib.Core.Logic.{◌⊎◌, inl, inr}
-use Rattle.std.specs.Prelude.{Option, None, Some}
+use Rattle.std.specs.Prelude.{Option, None, Some, option_map, is_some}
 use mathlib.Core.List.{List, [], ◌∷◌, ◌++◌, map, append-nil}
 use native.Mathlib.Omega.{arith}
-use borrow.Author.Tests.{lt-ltb, leb-true}
-use lib.Dec.{leb}
+use borrow.Author.Tests.{leb-true, ltb-false}
+use lib.Dec.{leb, ltb}
 use lib.ListN.{length, get_or, take, drop, length-drop}
 use lib.Seq.{take_all}
 use Rattle.bcd.specs.Outcome.{Outcome, accepted, refused, pick, after, mapped, each, All, Octets, most}
@@ -15,7 +15,7 @@ use Rattle.bcd.specs.Digits.{Alphabet, Lawful, built_in, digits_in, read_digits,
 use Rattle.bcd.proofs.Outcomes.{accepted_inj, never, le_or_lt, mapped_inv, demand_inv, bounded-within, each_append}
 use Rattle.bcd.proofs.Characters.{built_in_lawful}
 use Rattle.bcd.proofs.Writable.{write_inv}
-use Rattle.parameter.specs.Parameter.{Param, four, run_length, two_at}
+use Rattle.parameter.specs.Parameter.{Param, four, four_in, padded_length, run_length, two_at}
 use Rattle.parameter.specs.Walk
 use Rattle.parameter.specs.Walk.{valued}
 use Rattle.parameter.specs.declared.Place.{Place}
@@ -24,15 +24,12 @@ use Rattle.parameter.proofs.Structure.{places-parameters}
 use Rattle.parameter.proofs.RoundTrip.{run_length-append}
 use Rattle.parameter.proofs.Reading.{parameters-room}
 use Rattle.address.specs.Address.{title_at, Title, Piece, title_octets, write_title, title, code, sub, other, present, sub_param}
-use Rattle.address.specs.Records.{flagged}
-use Rattle.address.specs.Parts.{is_kept, is_short, nothing, noted, note_all, sooner}
-use Rattle.address.specs.Steps.Kept.{kept_value, kept_title, kept_code, kept_sub, kept_pieces}
+use Rattle.address.specs.Parts.{nothing, noted, note_all, sooner}
+use Rattle.address.specs.Steps.Kept.{kept_title, kept_code, kept_sub, kept_pieces}
 use Rattle.address.specs.Listing.{other_places}
 use Rattle.address.specs.Steps.Plan.{HeldIn, Walked}
-use Rattle.address.specs.declared.parts.Kept.{Kept}
-use Rattle.address.specs.declared.parts.Short.{Short}
 use Rattle.address.specs.declared.parts.Parts.{Parts}
-use Rattle.address.proofs.Keeping.{kinds, kinds-tagged, Inside}
+use Rattle.address.proofs.Keeping.{kinds, Inside}
 use Rattle.address.proofs.Interpreting.{by, others-length}
 
 pub each_one : {A B : Type 0} (f : A → Outcome (List B)) (x : A) → each f (x ∷ []) ≡ f x
@@ -60,21 +57,21 @@ walked v s o within long routing e =
     record { octets = o; within = within; long = long; routing = routing; places = ps; walked = w; parts = sym p }
 
 -- A title's octets on the wire, by its digits.
-pub title_sized : (A : Alphabet) (t : Title) → mapped run_length (sub_param A (title t)) ≡ mapped (λ n. (n + 15) / 4 * 4) (mapped length (write_digits A t.digits))
+pub title_sized : (A : Alphabet) (t : Title) → mapped run_length (sub_param A (title t)) ≡ mapped (λ n. padded_length (8 + n)) (mapped length (write_digits A t.digits))
 unfolding sub_param write_title run_length
 title_sized A t = go (write_digits A t.digits)
   where
     go :
         (o : Outcome (List ℕ))
         → mapped run_length (mapped (λ v. record { tag = 0x8001; value = v } ∷ []) (mapped (title_octets t) o))
-        ≡ mapped (λ n. (n + 15) / 4 * 4) (mapped length o)
+        ≡ mapped (λ n. padded_length (8 + n)) (mapped length o)
     go (accepted os) = ap accepted (omega arith)
     go (refused n vs) = refl
 
 pub title_measured :
     (w : List ℕ)
     → mapped run_length (sub_param built_in (title (title_at built_in w)))
-    ≡ mapped (λ n. (n + 15) / 4 * 4) (mapped length (write_digits built_in (digits_in built_in (drop 8 w) (get_or w 4 0))))
+    ≡ mapped (λ n. padded_length (8 + n)) (mapped length (write_digits built_in (digits_in built_in (drop 8 w) (get_or w 4 0))))
 title_measured w = title_sized built_in (title_at built_in w)
 
 read-digits : (xs : List ℕ) (count : ℕ) → length xs ≤ most → after (read_digits built_in xs count) (write_digits built_in) ≡ write_digits built_in (digits_in built_in xs count)
@@ -104,33 +101,17 @@ module _ (A : Alphabet) (L : Lawful A) where
 
   title_small : (t : Title) (n : ℕ) → accepted n ≡ mapped run_length (sub_param A (title t)) → n ≤ 140
   title_small t n e =
-      let (k, hk, same) = mapped_inv (λ n. (n + 15) / 4 * 4) (mapped length (write_digits A t.digits)) (sym (e ∙ title_sized A t)) in
+      let (k, hk, same) = mapped_inv (λ n. padded_length (8 + n)) (mapped length (write_digits A t.digits)) (sym (e ∙ title_sized A t)) in
       let s = digits_few t.digits k (sym hk) in
       omega arith
 
-  pub flagged_small : (b : Bool) (t : Title) (n : ℕ) → accepted n ≡ mapped run_length (each (sub_param A) (present title (flagged b t))) → n ≤ 140
+  pub title_few : (o : Option Title) (n : ℕ) → accepted n ≡ mapped run_length (each (sub_param A) (present title o)) → n ≤ 140
   unfolding run_length
-  flagged_small true t n e = title_small t n (e ∙ ap (mapped run_length) (each_one (sub_param A) (title t)))
-  flagged_small false t n e = let z : n ≡ 0 = accepted_inj e in omega arith
+  title_few (Some t) n e = title_small t n (e ∙ ap (mapped run_length) (each_one (sub_param A) (title t)))
+  title_few None n e = let z : n ≡ 0 = accepted_inj e in omega arith
 
 pub digits_small : (cs : List ℕ) (n : ℕ) → accepted n ≡ mapped length (write_digits built_in cs) → n ≤ 128
 digits_small = digits_few built_in built_in_lawful
-
--- A title that is kept, and none.
-module _ (A : Alphabet) (v : List ℕ) (k : Kept) where
-  pub title_there :
-      (o : Outcome ℕ)
-      → is_kept k ≡ true
-      → o ≡ mapped run_length (sub_param A (title (title_at built_in (kept_value v k))))
-      → o ≡ mapped run_length (each (sub_param A) (present title (kept_title built_in v k)))
-  title_there o e h = rw e (h ∙ ap (mapped run_length) (sym (each_one (sub_param A) (title (title_at built_in (kept_value v k))))))
-
-  pub kept_small : Lawful A → (n : ℕ) → accepted n ≡ mapped run_length (each (sub_param A) (present title (kept_title built_in v k))) → n ≤ 140
-  kept_small L = flagged_small A L (is_kept k) (title_at built_in (kept_value v k))
-
-  pub title_absent : is_kept k ≡ false → accepted 0 ≡ mapped run_length (each (sub_param A) (present title (kept_title built_in v k)))
-  unfolding run_length
-  title_absent e = rw e
 
 -- Where none is too short, what is kept lies inside the value and is long enough.
 pub record Sound (v : List ℕ) (s : Parts) : Type 0 where
@@ -138,31 +119,28 @@ pub record Sound (v : List ℕ) (s : Parts) : Type 0 where
   pub code : HeldIn v 4 s.code
   pub ssn : HeldIn v 4 s.ssn
 
-unlike : {b : Bool} {X : Type 0} → b ≡ true → b ≡ false → X
-unlike {b} e f = let z : ◌≡◌ {A = Bool} true false = sym e ∙ f in let n : ◌≡◌ {A = ℕ} 0 1 = cc in absurd (omega arith)
+some_none : {X : Type 0} {x : X} → ◌≡◌ {A = Option X} (Some x) None → ⊥
+some_none {x = x} e = let z : ◌≡◌ {A = Bool} true false = ap is_some e in let n : ◌≡◌ {A = ℕ} 0 1 = cc in omega arith
 
-sooner_none : (k : Short) (p : Place) (least : ℕ) → 0 < p.tag → is_short (sooner k p least) ≡ false → (is_short k ≡ false) × (least ≤ p.length)
-sooner_none k p least tagged e = kept (is_short k) refl
+sooner_none : (k : Option Place) (p : Place) (least : ℕ) → sooner k p least ≡ None → (k ≡ None) × (least ≤ p.length)
+sooner_none (Some k) p least e = absurd (some_none e)
+sooner_none None p least e = (refl, ltb-false p.length least (go (ltb p.length least) e))
   where
-    long : is_short k ≡ false → (least ≤ p.length) ⊎ (p.length < least) → (is_short k ≡ false) × (least ≤ p.length)
-    long f (inl h) = (f, h)
-    long f (inr h) = unlike {X = (is_short k ≡ false) × (least ≤ p.length)} refl (rw (f, lt-ltb p.length least h, lt-ltb 0 p.tag tagged) at e)
-
-    kept : (t : Bool) → is_short k ≡ t → (is_short k ≡ false) × (least ≤ p.length)
-    kept true f = unlike {X = (is_short k ≡ false) × (least ≤ p.length)} refl (rw (f, f) at e)
-    kept false f = long f (le_or_lt least p.length)
+    go : (t : Bool) → pick t (Some p) None ≡ None → t ≡ false
+    go true e = absurd (some_none e)
+    go false e = refl
 
 module _ (v : List ℕ) where
-  note_sound : (s : Parts) (p : Place) → Inside v p → (is_short s.short ≡ false → Sound v s) → is_short (noted s p).short ≡ false → Sound v (noted s p)
+  note_sound : (s : Parts) (p : Place) → Inside v p → (s.short ≡ None → Sound v s) → (noted s p).short ≡ None → Sound v (noted s p)
   unfolding noted
   note_sound s p h f =
-      kinds-tagged (λ a b c. is_short (by a b c s p).short ≡ false → Sound v (by a b c s p)) p.tag
-      (λ z e. let (t, l) = sooner_none s.short p 8 z e in let k = f t in record { title = λ u. (h, l); code = k.code; ssn = k.ssn })
-      (λ z e. let (t, l) = sooner_none s.short p 4 z e in let k = f t in record { title = k.title; code = λ u. (h, l); ssn = k.ssn })
-      (λ z e. let (t, l) = sooner_none s.short p 4 z e in let k = f t in record { title = k.title; code = k.code; ssn = λ u. (h, l) })
+      kinds (λ a b c. (by a b c s p).short ≡ None → Sound v (by a b c s p)) p.tag
+      (λ e. let (t, l) = sooner_none s.short p 8 e in let k = f t in record { title = (h, l); code = k.code; ssn = k.ssn })
+      (λ e. let (t, l) = sooner_none s.short p 4 e in let k = f t in record { title = k.title; code = (h, l); ssn = k.ssn })
+      (λ e. let (t, l) = sooner_none s.short p 4 e in let k = f t in record { title = k.title; code = k.code; ssn = (h, l) })
       (λ e. let k = f e in record { title = k.title; code = k.code; ssn = k.ssn })
 
-  notes_sound : (s : Parts) (ps : List Place) → All (Inside v) ps → (is_short s.short ≡ false → Sound v s) → is_short (note_all s ps).short ≡ false → Sound v (note_all s ps)
+  notes_sound : (s : Parts) (ps : List Place) → All (Inside v) ps → (s.short ≡ None → Sound v s) → (note_all s ps).short ≡ None → Sound v (note_all s ps)
   unfolding note_all
   notes_sound s [] h f e = f e
   notes_sound s (p ∷ ps) h f e = notes_sound (noted s p) ps h.1 (note_sound s p h.0 f) e
@@ -178,10 +156,8 @@ module _ {v : List ℕ} {s : Parts} (k : Walked v s) where
   inside : All (Inside v) k.places
   inside = places_inside v 4 k.places k.walked
 
-  pub sound : is_short s.short ≡ false → Sound v s
-  sound e =
-      let unkept : Sound v nothing = record { title = λ t. unlike {X = _} t refl; code = λ t. unlike {X = _} t refl; ssn = λ t. unlike {X = _} t refl } in
-      rw k.parts (notes_sound v nothing k.places inside (λ e. unkept) (rw k.parts at e))
+  pub sound : s.short ≡ None → Sound v s
+  sound e = rw k.parts (notes_sound v nothing k.places inside (λ e. record { title = tt; code = tt; ssn = tt }) (rw k.parts at e))
 
   pub others-sum : s.other_length ≡ run_length (map (valued v) (other_places k.places))
   others-sum = ap (λ (s : Parts). s.other_length) k.parts ∙ others-length v nothing k.places inside ∙ omega arith
@@ -219,11 +195,16 @@ module _ (A : Alphabet) where
   other_params [] = refl
   other_params (q ∷ qs) = rw (other_params qs)
 
+-- What is made of a part is there where the part is.
+pub map-some : {X Y : Type 0} (f : X → Y) (o : Option X) → is_some (option_map f o) ≡ is_some o
+map-some f None = refl
+map-some f (Some x) = refl
+
 -- A point code or an SSN takes eight octets.
-pub four-length : (f : ℕ → Param) → ((n : ℕ) → length (f n).value ≡ 4) → (b : Bool) (n : ℕ) → run_length (param_of f (flagged b n)) ≡ pick b 8 0
+pub four-length : (f : ℕ → Param) → ((n : ℕ) → length (f n).value ≡ 4) → (o : Option ℕ) → run_length (param_of f o) ≡ pick (is_some o) 8 0
 unfolding run_length
-four-length f h true n = rw (h n)
-four-length f h false n = refl
+four-length f h (Some n) = rw (h n)
+four-length f h None = refl
 
 each-first_refused :
     {A B : Type 0} (f : A → Outcome (List B)) (xs ys : List A) (n : ℕ) (vs : List ℕ) → each f xs ≡ refused n vs → each f (xs ++ ys) ≡ refused n vs
@@ -245,11 +226,11 @@ abbrev pub behind : (c s : Option ℕ) → List Param → List Param
 behind c s os = param_of code_param c ++ (param_of sub_one s ++ os)
 
 pub behind-length :
-    (b d : Bool) (c s : ℕ) (os : List Param) → run_length (behind (flagged b c) (flagged d s) os) ≡ pick b 8 0 + (pick d 8 0 + run_length os)
-behind-length b d c s os =
-    run_length-append (param_of code_param (flagged b c)) _
-    ∙ ap₂ (λ (a b : ℕ). a + b) (four-length code_param (λ n. refl) b c)
-    (run_length-append (param_of sub_one (flagged d s)) _ ∙ ap (λ (a : ℕ). a + run_length os) (four-length sub_one (λ n. refl) d s))
+    (c s : Option ℕ) (os : List Param) → run_length (behind c s os) ≡ pick (is_some c) 8 0 + (pick (is_some s) 8 0 + run_length os)
+behind-length c s os =
+    run_length-append (param_of code_param c) _
+    ∙ ap₂ (λ (a b : ℕ). a + b) (four-length code_param (λ n. refl) c)
+    (run_length-append (param_of sub_one s) _ ∙ ap (λ (a : ℕ). a + run_length os) (four-length sub_one (λ n. refl) s))
 
 -- The sub-parameters of any title, point code, SSN and others.
 module _ (A : Alphabet) (t : Option Title) (c s : Option ℕ) (os : List Param) where
@@ -270,8 +251,11 @@ module _ (v : List ℕ) (s : Parts) (ps : List Place) where
   rest = behind (kept_code v s.code) (kept_sub v s.ssn) (map (valued v) (other_places ps))
 
   pub rest-length :
-      run_length rest ≡ pick (is_kept s.code) 8 0 + (pick (is_kept s.ssn) 8 0 + run_length (map (valued v) (other_places ps)))
-  rest-length = behind-length (is_kept s.code) (is_kept s.ssn) _ _ (map (valued v) (other_places ps))
+      run_length rest ≡ pick (is_some s.code) 8 0 + (pick (is_some s.ssn) 8 0 + run_length (map (valued v) (other_places ps)))
+  rest-length =
+      let c = map-some (λ (p : Place). four_in (valued v p).value) s.code in
+      let u = map-some (λ (p : Place). get_or (valued v p).value 3 0) s.ssn in
+      behind-length (kept_code v s.code) (kept_sub v s.ssn) (map (valued v) (other_places ps)) ∙ rw (c, u) refl
 
   pub kept-written :
       (A : Alphabet) (qs : List Param)

@@ -1,7 +1,7 @@
 -- An address value that was interpreted, read and written again: refused, or these octets.
 use Prim.Native.Nat.{ℕ, ◌+◌, ◌*◌, ◌/◌, ◌%◌, ◌^◌, ◌≤◌, ◌<◌}
 use mathlib.Core.Path.{◌≡◌, sym, ap, ◌∙◌}
-use mathlib.Core.Bool.{Bool, true, false}
+use Rattle.std.specs.Prelude.{Err, is_some}
 use mathlib.Core.Logic.{◌⊎◌, inl, inr}
 use mathlib.Core.List.{List, [], ◌∷◌, ◌++◌, map}
 use native.Mathlib.Omega.{arith}
@@ -16,12 +16,10 @@ use Rattle.bcd.proofs.Outcomes.{le_or_lt, mapped_inv, bounded-within}
 use Rattle.parameter.specs.Parameter.{Param, two, run_octets, run_length, most_value, two_at}
 use Rattle.parameter.proofs.RoundTrip.{run_length_lem, run_length-append}
 use Rattle.address.specs.Address.{Address, Piece, title, present, address_with, address_in, read_address, indicator, pieces, sub_param, sized, write_address}
-use Rattle.address.specs.Parts.{is_kept}
 use Rattle.address.specs.Steps.Kept.{kept_title, kept_pieces}
-use Rattle.address.specs.Steps.Plan.{Read, wire_of, Plan, digits_by, PlanOf}
+use Rattle.address.specs.Steps.Plan.{Read, wire_of, Plan, PlanOf}
 use Rattle.address.specs.declared.parts.Parts.{Parts}
-use Rattle.address.specs.declared.interpret.Planned.TheVariants as P
-use Rattle.address.proofs.Keeping.{piece_at, places_behind}
+use Rattle.address.proofs.Keeping.{piece_at}
 use Rattle.address.proofs.Interpreting.{kept_pieces_lem}
 use Rattle.address.proofs.Planning.{rest, rest-length, kept-written, kept_refused, others-sum}
 use Rattle.address.proofs.Interpreted.{address, read_whole}
@@ -57,7 +55,7 @@ module _ {A : Alphabet} (L : Alike A) {v : List ℕ} {s : Parts} (r : Read v s) 
   written_again = ap (λ (o : Outcome Address). after o (write_address A tag)) (read_whole r)
 
   pieces-known : pieces (address r.known) ≡ kept_pieces built_in v s r.known.places
-  pieces-known = rw r.known.parts (kept_pieces_lem built_in v r.known.places (places_behind v r.known.places r.known.walked) (two_at v 0) (get_or v 3 0))
+  pieces-known = rw r.known.parts (kept_pieces_lem built_in v r.known.places (two_at v 0) (get_or v 3 0))
 
   -- The title's digits refuse.
   pub plan_unknown :
@@ -85,7 +83,7 @@ wire_length_lem v qs = omega (arith, run_length_lem qs)
 -- The sum of the parts' lengths is that of the octets.
 module _ {A : Alphabet} (L : Alike A) {v : List ℕ} {s : Parts} (r : Read v s) (n total : ℕ)
     (titled : accepted n ≡ mapped run_length (each (sub_param A) (present title (kept_title built_in v s.title))))
-    (sum : total ≡ 4 + n + pick (is_kept s.code) 8 0 + pick (is_kept s.ssn) 8 0 + s.other_length) where
+    (sum : total ≡ 4 + n + pick (is_some s.code) 8 0 + pick (is_some s.ssn) 8 0 + s.other_length) where
   record Summed : Type 0 where
     params : List Param
     written : each (sub_param A) (kept_pieces built_in v s r.known.places) ≡ accepted params
@@ -119,7 +117,6 @@ plan_octets L {v} {s} {total} tag p =
 pub plan_length : {A : Alphabet} (L : Alike A) {v : List ℕ} {s : Parts} {total : ℕ} (tag : ℕ) (p : Plan A v s total) → accepted total ≡ mapped length (after (read_address built_in v) (write_address A tag))
 plan_length L {v} {s} {total} tag p = sym (ap (mapped length) (plan_octets L tag p) ∙ ap accepted (wire_length_lem v p.params ∙ p.size))
 
--- A value that is not read is refused, whether or not it is to be written.
-pub plan_refused : (written checked : Bool) (tag : ℕ) (v : List ℕ) (r : Refusal) → read_address built_in v ≡ refusal_of r → PlanOf written checked tag v (P.Refused r)
-plan_refused true checked tag v r e = ap (λ (o : Outcome Address). after o (write_address (digits_by checked) tag)) e
-plan_refused false checked tag v r e = e
+-- A value that is not read is refused.
+pub plan_refused : (A : Alphabet) (tag : ℕ) (v : List ℕ) (r : Refusal) → read_address built_in v ≡ refusal_of r → PlanOf A tag v (Err r)
+plan_refused A tag v r e = ap (λ (o : Outcome Address). after o (write_address A tag)) e

@@ -3,6 +3,7 @@ use Prim.Native.Nat.{ℕ}
 use mathlib.Core.Path.{◌≡◌, sym, ap, ◌∙◌, subst}
 use mathlib.Core.Logic.{⊎_elim, inl, inr}
 use mathlib.Core.List.{List, [], ◌∷◌}
+use lib.ListN.{length}
 use Rattle.bcd.specs.Outcome.{Outcome, accepted, refused, mapped, Octets}
 use Rattle.bcd.specs.Digits.{built_in}
 use Rattle.parameter.specs.declared.Place.{Place}
@@ -10,14 +11,14 @@ use Rattle.parameter.specs.Table.{Table, Tabulated, tabulate, records}
 use Rattle.parameter.proofs.Stored.{stored_or_small}
 use Rattle.bcd.proofs.Outcomes.{accepted_inj}
 use Rattle.address.specs.Address.{Address, read_address}
-use Rattle.address.specs.Listing.{other_places, address_record, record_in, Listed, list_address}
-use Rattle.address.specs.Records.{address_of}
+use Rattle.address.specs.Listing.{other_places, address_record, Listed, listed, list_address}
 use Rattle.address.specs.Steps.Plan.{Read}
 use Rattle.address.specs.Standing.{ListsAs}
+use Rattle.address.specs.declared.SuaAddress.{SuaAddress}
 use Rattle.address.specs.declared.parts.Parts.{Parts}
 use Rattle.address.proofs.Interpreted.{address, read_whole, accepted_read}
 use Rattle.address.proofs.AddressRecords.{address_back}
-use Rattle.address.proofs.Tabling.{places-known}
+use Rattle.address.proofs.Tabling.{places-known, list_known}
 use Rattle.address.proofs.TableBack.{others, others_count, others_inside, routing}
 
 module _ {v : List ℕ} {s : Parts} (y : Read v s) (t : Table) where
@@ -30,33 +31,25 @@ module _ {v : List ℕ} {s : Parts} (y : Read v s) (t : Table) where
   abbrev stored : Tabulated
   stored = tabulate (accepted ps) t
 
-  abbrev read : Outcome ℕ → Outcome Address
-  read n = mapped (λ _. a) n
-
-  listed : list_address v t ≡ record { answer = mapped (λ _. tt) (read stored.answer); address = record_in (read stored.answer); table = stored.table }
-  unfolding list_address
-  listed = rw (places-known y, read_whole y)
+  told : (o : Tabulated) → stored ≡ o → list_address v t ≡ listed (mapped (λ (n : ℕ). address_record a) o.answer) o.table
+  told o e = list_known y t o (sym (ap (λ (o : Outcome (List Place)). tabulate o t) (places-known y) ∙ e))
 
   lists : ListsAs v a t
   lists =
       ⊎_elim
       (λ (n, r).
-      let told : list_address v t ≡ record { answer = accepted tt; address = address_record a; table = stored.table } =
-      listed ∙ ap (λ (o : Outcome ℕ). record { answer = mapped (λ _. tt) (read o); address = record_in (read o); table = stored.table }) n in
+      let all = told stored refl in
       inl (record {
-        answer = ap (λ (l : Listed). l.answer) told;
+        read = address_record a;
+        answer = ap (λ (l : Listed). l.answer) all ∙ ap (mapped (λ (n : ℕ). address_record a)) n;
         others =
-            ap (λ (l : Listed). records v l.table l.address.other_count) told
+            ap (λ (l : Listed). records v l.table (length a.others)) all
             ∙ ap (records v stored.table) (others_count y)
             ∙ r
             ∙ ap accepted (sym (others y));
-        address = ap (λ (l : Listed). address_of l.address a.others) told ∙ address_back a (routing y);
+        address = address_back a (routing y);
       }))
-      (λ small.
-      inr
-      (listed
-      ∙ ap (λ (s : Tabulated). record { answer = mapped (λ _. tt) (read s.answer); address = record_in (read s.answer); table = s.table }) small
-      ∙ ap (λ (n : ℕ). record { answer = refused 13 (n ∷ []); address = record_in (refused 13 (n ∷ [])); table = t }) (sym (others_count y))))
+      (λ small. inr (told _ small ∙ ap (λ (n : ℕ). listed (refused 13 (n ∷ [])) t) (sym (others_count y))))
       (stored_or_small v ps t (others_inside y))
 
 -- Reading an address value into a record and a table is refused only as 13, and what it stores stands for the address.

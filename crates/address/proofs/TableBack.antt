@@ -2,7 +2,7 @@
 use Prim.Native.Nat.{ℕ, ◌≤◌, ◌<◌}
 use mathlib.Core.Path.{◌≡◌, refl, sym, ap, ◌∙◌, subst}
 use mathlib.Core.Bool.{Bool, true, false}
-use Rattle.std.specs.Prelude.{Option, None, Some, option_map, unwrap_or}
+use Rattle.std.specs.Prelude.{Option, None, Some, option_map}
 use mathlib.Core.List.{List, [], ◌∷◌, map}
 use native.Mathlib.Omega.{arith}
 use borrow.Author.Tests.{le-leb}
@@ -18,17 +18,16 @@ use Rattle.parameter.specs.declared.Place.{Place}
 use Rattle.parameter.proofs.Walking.{places_inside}
 use Rattle.parameter.proofs.Stored.{stored-records}
 use Rattle.address.specs.Address.{Title, title_at, Address, address_with, read_address, write_address}
-use Rattle.address.specs.Records.{title_of, title_given, flagged, address_of, address_given}
-use Rattle.address.specs.Titles.{record_of, no_title}
-use Rattle.address.specs.Listing.{is_other, other_places, address_places, is_there, address_record, record_in, Listed, listed, list_address}
+use Rattle.address.specs.Records.{title_of, part_given, address_of, address_given}
+use Rattle.address.specs.Titles.{record_of}
+use Rattle.address.specs.Listing.{is_other, other_places, address_places, address_record, Listed, listed, list_address}
 use Rattle.address.specs.Given.{encode_address_as, encode_address}
-use Rattle.address.specs.Parts.{is_kept, nothing, note_all}
-use Rattle.address.specs.Steps.Kept.{kept_value, kept_title}
+use Rattle.address.specs.Parts.{nothing, note_all}
+use Rattle.address.specs.Steps.Kept.{kept_title}
 use Rattle.address.specs.Steps.Plan.{Read}
 use Rattle.address.specs.declared.SuaAddress.{SuaAddress}
-use Rattle.address.specs.declared.parts.Kept.{Kept}
 use Rattle.address.specs.declared.parts.Parts.{Parts}
-use Rattle.address.proofs.Keeping.{Inside, places_behind}
+use Rattle.address.proofs.Keeping.{Inside}
 use Rattle.address.proofs.Interpreting.{title_holds, others_hold}
 use Rattle.address.proofs.Interpreted.{address, read_whole, accepted_read}
 use Rattle.address.proofs.AddressRecords.{address_back}
@@ -39,33 +38,22 @@ abbrev FewDigits : Option Title → Type 0
 FewDigits None = Unit {0}
 FewDigits (Some t) = length t.digits ≤ 255
 
-kept_few : (v : List ℕ) (k : Kept) → Octets v → FewDigits (kept_title built_in v k)
-kept_few v k o = go (is_kept k)
+kept_few : (v : List ℕ) (k : Option Place) → Octets v → FewDigits (kept_title built_in v k)
+kept_few v None o = tt
+kept_few v (Some p) o = read_at_most built_in (drop 8 w) (get_or w 4 0) (omega (arith, octets_at w 4 octets))
   where
     w : List ℕ
-    w = kept_value v k
+    w = (valued v p).value
 
     octets : Octets w
-    octets = all_take (λ (x : ℕ). x < 256) k.length (drop k.start v) (all_drop (λ (x : ℕ). x < 256) k.start v o)
+    octets = all_take (λ (x : ℕ). x < 256) p.length (drop p.start v) (all_drop (λ (x : ℕ). x < 256) p.start v o)
 
-    go : (b : Bool) → FewDigits (flagged b (title_at built_in w))
-    go true = read_at_most built_in (drop 8 w) (get_or w 4 0) (omega (arith, octets_at w 4 octets))
-    go false = tt
-
-title_taken :
-    (o : Option Title)
-    → FewDigits o
-    → title_given (unwrap_or (option_map record_of o) no_title) ≡ accepted (title_of (unwrap_or (option_map record_of o) no_title))
+title_taken : (o : Option Title) → FewDigits o → part_given (option_map record_of o) ≡ accepted (option_map title_of (option_map record_of o))
 title_taken None f = refl
 title_taken (Some t) f = rw (le-leb (length t.digits) 255 f)
 
-given-known : (b : Bool) (x : Address) (o : Outcome Title) (t : Title) → o ≡ accepted t → pick b (mapped (λ t. x) o) (accepted x) ≡ accepted x
-given-known true x o t e = rw e
-given-known false x o t e = refl
-
 given-read : (a : Address) → a.routing ≤ 4 → FewDigits a.title → address_given (address_record a) a.others ≡ accepted a
-given-read a h f =
-    given-known (is_there a.title) (address_of (address_record a) a.others) _ _ (title_taken a.title f) ∙ ap accepted (address_back a h)
+given-read a h f = rw (title_taken a.title f) (ap accepted (address_back a h))
 
 pub others-all : (P : Place → Type 0) (ps : List Place) → All P ps → All P (other_places ps)
 others-all P [] h = tt
@@ -86,17 +74,16 @@ pub record IsListed (v : List ℕ) (t : Table) (r : SuaAddress) (held : Table) :
 tabulated : (s : Tabulated) (n : ℕ) (held : Table) → s.answer ≡ accepted n → held ≡ s.table → record { answer = accepted n; table = held } ≡ s
 tabulated s n held e h = rw (h, ← e)
 
-pub list_inv : (v : List ℕ) (t held : Table) (r : SuaAddress) → record { answer = accepted tt; address = r; table = held } ≡ list_address v t → IsListed v t r held
+pub list_inv : (v : List ℕ) (t held : Table) (r : SuaAddress) → listed (accepted r) held ≡ list_address v t → IsListed v t r held
 unfolding list_address
 list_inv v t held r e =
     let s : Tabulated = tabulate (address_places v) t in
-    let (b, hb, done) = mapped_inv _ _ (sym (ap (λ (l : Listed). l.answer) e)) in
-    let (a, ha, f) = after_inv (read_address built_in v) _ hb in
+    let (a, ha, f) = after_inv (read_address built_in v) _ (sym (ap (λ (l : Listed). l.answer) e)) in
     let (n, hn, same) = mapped_inv _ s.answer f in
     record {
       address = a;
       read = ha;
-      recorded = ap (λ (l : Listed). l.address) e ∙ ap record_in hb ∙ ap address_record (sym same);
+      recorded = sym same;
       count = n;
       stored = tabulated s n held hn (ap (λ (l : Listed). l.table) e);
     }
@@ -118,7 +105,7 @@ module _ {v : List ℕ} {s : Parts} (y : Read v s) where
 
   few : FewDigits a.title
   unfolding address_with
-  few = subst FewDigits (sym (title_holds built_in v ps (places_behind v ps y.known.walked))) (kept_few v (note_all nothing ps).title y.known.octets)
+  few = subst FewDigits (sym (title_holds built_in v ps)) (kept_few v (note_all nothing ps).title y.known.octets)
 
   pub routing : a.routing ≤ 4
   unfolding address_with
@@ -154,7 +141,7 @@ module _ {v : List ℕ} {s : Parts} (y : Read v s) where
 pub written_from_table :
     (v : List ℕ) (t held : Table) (r : SuaAddress)
     → Octets v
-    → listed (accepted tt) r held ≡ list_address v t
+    → listed (accepted r) held ≡ list_address v t
     → encode_address r v held ≡ after (read_address built_in v) (write_address built_in 0)
 written_from_table v t held r o e =
     let l = list_inv v t held r e in

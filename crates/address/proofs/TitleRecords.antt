@@ -7,19 +7,16 @@ use borrow.Author.Tests.{le-leb, lt-leb}
 use lib.ListN.{length, get_or, take, drop, length-drop}
 use lib.Seq.{take-append_seam, length-take-le}
 use borrow.Rule.Slice.PartMut.{mid_of, put_mid}
-use Rattle.bcd.specs.Outcome.{Outcome, accepted, refused, after, mapped, most, Delivered, deliver}
-use Rattle.bcd.specs.Digits.{built_in, digits_in, read_digits, write_digits}
-use Rattle.bcd.proofs.Outcomes.{accepted_inj, never, bounded-within, bounded_beyond, mapped_inv, deliver_refused, deliver_buffer, deliver_fits}
+use Rattle.bcd.specs.Outcome.{Outcome, accepted, refused, after, mapped, most, deliver}
+use Rattle.bcd.specs.Digits.{built_in, digits_in, digits_record, read_digits, write_digits}
+use Rattle.bcd.specs.declared.GtDigits.{GtDigits}
+use Rattle.bcd.proofs.Outcomes.{accepted_inj, never, bounded-within, bounded_beyond, mapped_inv, deliver_refused, deliver_buffer}
 use Rattle.bcd.proofs.Writing.{extend, delivered}
 use Rattle.bcd.proofs.Characters.{built_in_lawful}
 use Rattle.bcd.proofs.Writable.{write_inv}
-use Rattle.bcd.proofs.Digits.{read_at_most}
-use Rattle.bcd.proofs.Distinct.{refusals_distinct}
 use Rattle.address.specs.Address.{Title, title_in, read_title, title_octets, write_title}
 use Rattle.address.specs.Records.{title_of, title_given, title_record}
-use Rattle.address.specs.Titles.{verdict_of, zeros, record_of, title_refused, title_answer}
-use Rattle.address.specs.declared.title.Verdict.{Verdict}
-use Rattle.address.specs.declared.title.Verdict.TheVariants as D
+use Rattle.address.specs.Titles.{zeros, record_of}
 use Rattle.address.specs.declared.GlobalTitle.{GlobalTitle}
 use Rattle.address.proofs.Planning.{whole_part}
 use Rattle.address.proofs.Copying.{lent_length}
@@ -27,43 +24,34 @@ use Rattle.address.proofs.Lending.{lent_refused, lent_accepted, refusal_same, sh
 
 -- Reading a title: 12, 1, or the record.
 module _ (v : List ℕ) where
-  pub title_beyond : most < length v → title_refused (refused 12 (length v ∷ [])) ≡ title_answer (read_title built_in v)
-  unfolding read_title title_answer
+  pub title_beyond : most < length v → refused 12 (length v ∷ []) ≡ mapped record_of (read_title built_in v)
+  unfolding read_title
   title_beyond h = rw (bounded_beyond v (title_in built_in v) h)
 
   module _ (within : length v ≤ most) where
-    pub title_few : length v < 8 → title_refused (refused 1 (8 ∷ length v ∷ [])) ≡ title_answer (read_title built_in v)
-    unfolding read_title title_answer title_in
+    pub title_few : length v < 8 → refused 1 (8 ∷ length v ∷ []) ≡ mapped record_of (read_title built_in v)
+    unfolding read_title title_in
     title_few h = rw (bounded-within v (title_in built_in v) within, lt-leb 8 (length v) h)
 
-    module _ (long : 8 ≤ length v) (count : get_or v 4 0 ≤ 255) where
+    module _ (long : 8 ≤ length v) where
       abbrev digits : List ℕ
       digits = digits_in built_in (drop 8 v) (get_or v 4 0)
 
-      read_known : deliver (read_digits built_in (take (length v - 8) (drop 8 v)) (get_or v 4 0)) zeros ≡ record { answer = accepted (length digits); buffer = digits ++ drop (length digits) zeros }
+      pub digits-known : mapped digits_record (read_digits built_in (drop 8 v) (get_or v 4 0)) ≡ accepted (digits_record digits)
       unfolding read_digits
-      read_known =
-          let few = read_at_most built_in (drop 8 v) (get_or v 4 0) count in
-          ap (λ xs. deliver (read_digits built_in xs (get_or v 4 0)) zeros) (whole_part 8 v)
-          ∙ ap (λ (o : Outcome (List ℕ)). deliver o zeros) (bounded-within (drop 8 v) (accepted digits) (omega (arith, length-drop 8 v)))
-          ∙ sym (deliver_fits digits zeros few)
+      digits-known = ap (mapped digits_record) (bounded-within (drop 8 v) (accepted digits) (omega (arith, length-drop 8 v)))
 
       pub title_done :
-          (n : ℕ) (ds : List ℕ)
-          → record { answer = accepted n; buffer = ds } ≡ deliver (read_digits built_in (take (length v - 8) (drop 8 v)) (get_or v 4 0)) zeros
-          → record { answer = accepted tt; title = title_record (get_or v 3 0) (get_or v 5 0) (get_or v 6 0) (get_or v 7 0) ds n } ≡ title_answer (read_title built_in v)
-      unfolding read_title title_answer title_in
-      title_done n ds e =
-          let all = e ∙ read_known in
-          let a = accepted_inj (ap (λ (d : Delivered). d.answer) all) in
-          let b = ap (λ (d : Delivered). d.buffer) all in
-          rw (bounded-within v (title_in built_in v) within, le-leb 8 (length v) long, a, b)
+          (read : GtDigits)
+          → accepted read ≡ mapped digits_record (read_digits built_in (drop 8 v) (get_or v 4 0))
+          → accepted (title_record (get_or v 3 0) (get_or v 5 0) (get_or v 6 0) (get_or v 7 0) read.digits read.count) ≡ mapped record_of (read_title built_in v)
+      unfolding read_title title_in
+      title_done read e =
+          let all : read ≡ digits_record digits = accepted_inj (e ∙ digits-known) in
+          rw (bounded-within v (title_in built_in v) within, le-leb 8 (length v) long, all)
 
-      pub title_never :
-          {X : Type 0} (n : ℕ) (vs ds : List ℕ)
-          → record { answer = refused n vs; buffer = ds } ≡ deliver (read_digits built_in (take (length v - 8) (drop 8 v)) (get_or v 4 0)) zeros
-          → X
-      title_never n vs ds e = absurd (never (ap (λ (d : Delivered). d.answer) (e ∙ read_known)))
+      pub title_never : {X : Type 0} (n : ℕ) (vs : List ℕ) → refused n vs ≡ mapped digits_record (read_digits built_in (drop 8 v) (get_or v 4 0)) → X
+      title_never n vs e = absurd (never (e ∙ digits-known))
 
 -- Writing a record: 11, 9, 14, or its octets.
 pub record_many : (g : GlobalTitle) (out : List ℕ) → 255 < g.count → record { answer = refused 11 (g.count ∷ []); buffer = out } ≡ deliver (after (title_given g) (write_title built_in)) out
@@ -144,10 +132,3 @@ module _ (g : GlobalTitle) (few : g.count ≤ 255) (long : 255 ≤ length g.digi
 -- The record of a title stands for that title.
 pub record_back : (t : Title) → title_of (record_of t) ≡ t
 record_back t = ap (λ ds. record { gti = t.gti; tt = t.tt; np = t.np; noa = t.noa; digits = ds }) (take-append_seam t.digits (drop (length t.digits) zeros))
-
--- Distinct verdicts have distinct outcomes.
-pub verdict_distinct : (r s : Verdict) → verdict_of r ≡ verdict_of s → r ≡ s
-verdict_distinct D.Done D.Done e = refl
-verdict_distinct D.Done (D.Refused s) e = absurd (never (sym e))
-verdict_distinct (D.Refused r) D.Done e = absurd (never e)
-verdict_distinct (D.Refused r) (D.Refused s) e = ap D.Refused (refusals_distinct r s e)

@@ -87,7 +87,7 @@ module _ (w : List ℕ) (octets : Octets w) (long : 8 ≤ length w) (n : ℕ) (c
       rw (ho, l)
 
   -- What it takes on the wire.
-  pub title_length_lem : (r : ℕ) → r ≡ ((n + 1) / 2 + 15) / 4 * 4 → accepted r ≡ mapped run_length (sub_param with_unknown (title (title_at built_in w)))
+  pub title_length_lem : (r : ℕ) → r ≡ padded_length (8 + (n + 1) / 2) → accepted r ≡ mapped run_length (sub_param with_unknown (title (title_at built_in w)))
   unfolding run_length
   title_length_lem r e = sym (ap (mapped run_length) title_param_lem ∙ ap accepted (omega (arith, halves-packed ds n (omega (arith, there)))))
 

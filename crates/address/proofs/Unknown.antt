@@ -19,6 +19,8 @@ use Rattle.parameter.specs.Parameter.{Param}
 use Rattle.address.specs.Address.{Piece, title, code, sub, other, title_in, title_octets, piece_in, address_in, read_address, write_title, sub_param, pieces, write_address}
 use Rattle.address.specs.Again.{with_unknown}
 use Rattle.address.specs.Steps.Plan.{digits_by}
+use Rattle.address.specs.declared.interpret.Digits.{Digits}
+use Rattle.address.specs.declared.interpret.Digits.TheVariants as D
 
 -- What each half octet reads as is written as that half octet.
 back : (h : ℕ) → h < 16 → Back with_unknown h
@@ -66,9 +68,9 @@ reads_alike : (v : List ℕ) → address_in with_unknown v ≡ address_in built_
 unfolding address_in piece_in title_in digits_in
 reads_alike v = refl
 
-pub alike : (checked : Bool) → Alike (digits_by checked)
-alike true = record { lawful = built_in_lawful; reads = λ v. refl }
-alike false = record { lawful = with_unknown_lawful; reads = reads_alike }
+pub alike : (digits : Digits) → Alike (digits_by digits)
+alike D.Checked = record { lawful = built_in_lawful; reads = λ v. refl }
+alike D.AsRead = record { lawful = with_unknown_lawful; reads = reads_alike }
 
 -- A character's place in the front of a list.
 place-front : (c : ℕ) (xs ys : List ℕ) (h : ℕ) → place c xs ≡ Some h → place c (xs ++ ys) ≡ Some h

@@ -6,10 +6,10 @@ use mathlib.Core.List.{List, [], ◌∷◌, ◌++◌, map, map-append}
 use native.Mathlib.Omega.{arith}
 use lib.ListN.{length, drop, length-append, length-take, length-drop}
 use borrow.Rule.Slice.PartMut.{mid_of, put_mid}
-use Rattle.bcd.specs.Outcome.{Outcome, accepted, bounded, Octets, most, deliver}
-use Rattle.bcd.proofs.Outcomes.{accepted_inj, mapped_inv, deliver_buffer, deliver_answer, octets_at}
+use Rattle.bcd.specs.Outcome.{Outcome, accepted, refused, bounded, Octets, most, Delivered, deliver}
+use Rattle.bcd.proofs.Outcomes.{mapped_inv, octets_at}
 use Rattle.bcd.proofs.Writing.{Begun, untouched, extend, delivered}
-use Rattle.parameter.specs.Parameter.{Param, padded_length, param_octets, run_octets, run_length, most_value, encode_param, two_at}
+use Rattle.parameter.specs.Parameter.{Param, run_octets, run_length, most_value, encode_param, two_at}
 use Rattle.parameter.specs.Walk.{found, step_at, places, valued}
 use Rattle.parameter.specs.declared.Place.{Place}
 use Rattle.parameter.proofs.Reaching.{Reached, reached_start, walk_found, walk_more}
@@ -17,10 +17,9 @@ use Rattle.parameter.proofs.RoundTrip.{run_length_lem, run_octets-append, run_le
 use Rattle.address.specs.Listing.{is_other, other_places}
 use Rattle.address.specs.Steps.Plan.{Walked, others_octets}
 use Rattle.address.specs.declared.parts.Parts.{Parts}
-use Rattle.parameter.proofs.Records.{value-length}
 use Rattle.address.proofs.Others.{others-append}
 use Rattle.address.proofs.Planning.{others-sum, others_small}
-use Rattle.address.proofs.Putting.{encoded, one_delivered, none_delivered}
+use Rattle.address.proofs.Putting.{delivered_never, delivered_inv, one_encoded, none_delivered}
 
 two_small : (v : List ℕ) (i : ℕ) → Octets v → two_at v i < 65536
 unfolding two_at
@@ -29,21 +28,12 @@ two_small v i o = omega (arith, octets_at v i o, octets_at v (i + 1) o)
 -- One sub-parameter: written if it is another one, else nothing.
 module _ (v : List ℕ) (p : Place) (out : List ℕ) where
   pub other_put :
-      {answer : Outcome ℕ} {last : List ℕ} {n : ℕ}
+      {d : Delivered}
       → is_other p.tag ≡ true
-      → p.start + p.length ≤ length v
       → p.length ≤ most_value
-      → run_length (map (valued v) (other_places (p ∷ []))) ≤ length out
-      → record { answer = answer; buffer = last } ≡ deliver (encode_param (valued v p)) out
-      → n ≡ padded_length p.length
-      → record { answer = accepted n; buffer = last } ≡ deliver (accepted (run_octets (map (valued v) (other_places (p ∷ []))))) out
-  unfolding run_length
-  other_put {answer} {last} {n} other inside small room e m =
-      let l = value-length v p inside in
-      let long : padded_length p.length ≤ length out = let r = rw (other, l) at room in omega arith in
-      let size : padded_length (length (valued v p).value) ≡ n = rw (l, m) in
-      let put = encoded (valued v p) out (rw l small) (rw l long) e ∙ ap (λ (k : ℕ). param_octets (valued v p) ++ drop k out) size in
-      rw other (one_delivered (valued v p) n last out put size (omega arith))
+      → d ≡ deliver (encode_param (valued v p)) out
+      → d ≡ deliver (accepted (run_octets (map (valued v) (other_places (p ∷ []))))) out
+  other_put other small e = rw other (one_encoded (valued v p) out (omega (arith, length-take p.length (drop p.start v))) e)
 
   pub other_absent : is_other p.tag ≡ false → record { answer = accepted 0; buffer = out } ≡ deliver (accepted (run_octets (map (valued v) (other_places (p ∷ []))))) out
   other_absent e = rw e (none_delivered out)
@@ -84,50 +74,46 @@ done-octets v ps e = rw e
 pub lent_length : (d : List ℕ) (at : ℕ) → length (mid_of at (length d - at) d) ≡ length d - at
 lent_length d at = simp (length-take, length-drop) (omega arith)
 
--- What a turn asks.
-pub record Turn (v d : List ℕ) (p : Place) (at : ℕ) : Type 0 where
-  pub inside : p.start + p.length ≤ length v
-  pub small : p.length ≤ most_value
-  pub room : at + run_length (others_of v (p ∷ [])) ≤ length d
-
+-- What a turn gives: it is not refused, and what it wrote stands behind the rest.
 module _ {v out d : List ℕ} {s : Parts} {cursor at : ℕ} (k : Walked v s) (y : Copying v out d cursor at) (fits : s.other_length ≤ length out)
     (p : Place) (next : ℕ) (e : accepted (found p next) ≡ bounded v (step_at v cursor)) where
   abbrev then_reached : Reached v 4 next
   then_reached = walk_more y.reached p next e
 
-  pub copying_turn : Turn v d p at
-  copying_turn =
-      let f = walk_found v cursor e in
+  pub other_small : p.length ≤ most_value
+  other_small = let f = walk_found v cursor e in omega (arith, f.size, two_small v (cursor + 2) k.octets)
+
+  abbrev lent : List ℕ
+  lent = mid_of at (length d - at) d
+
+  abbrev octets : List ℕ
+  octets = run_octets (others_of v (p ∷ []))
+
+  room : at + length octets ≤ length d
+  room =
       let (qs, same) = reached_front k.places then_reached k.walked in
       let first = run_length-append (others_of v y.reached.done) (others_of v (p ∷ [])) in
       let sum = run_length-append (others_of v (y.reached.done ++ (p ∷ []))) (others_of v qs) in
       let a = ap run_length (others_joined v y.reached.done (p ∷ [])) in
       let b = ap run_length (sym (others_joined v (y.reached.done ++ (p ∷ [])) qs) ∙ ap (others_of v) same) in
       let here = run_length_lem (others_of v y.reached.done) in
-      record {
-        inside = f.inside;
-        small = omega (arith, f.size, two_small v (cursor + 2) k.octets);
-        room = omega (arith, others-sum k, y.place, y.begun.same);
-      }
+      omega (arith, run_length_lem (others_of v (p ∷ [])), others-sum k, y.place, y.begun.same)
+
+  pub copying_never : {X : Type 0} {n : ℕ} {vs last : List ℕ} → record { answer = refused n vs; buffer = last } ≡ deliver (accepted octets) lent → X
+  copying_never put = delivered_never octets lent (omega (arith, room, lent_length d at)) put
 
   pub copying_next :
-      (last : List ℕ) (r m : ℕ)
-      → record { answer = accepted r; buffer = last } ≡ deliver (accepted (run_octets (others_of v (p ∷ [])))) (mid_of at (length d - at) d)
-      → m ≡ at + r
-      → Copying v out (put_mid at (length d - at) d last) next m
-  copying_next last r m put sum =
-      let t = copying_turn in
-      let os = run_octets (others_of v (p ∷ [])) in
-      let l = run_length_lem (others_of v (p ∷ [])) in
-      let lent = lent_length d at in
-      let fit : length os ≤ length (mid_of at (length d - at) d) = omega (arith, t.room) in
+      (last : List ℕ) (r : ℕ)
+      → record { answer = accepted r; buffer = last } ≡ deliver (accepted octets) lent
+      → Copying v out (put_mid at (length d - at) d last) next (at + r)
+  copying_next last r put =
+      let f = delivered_inv octets lent put in
       let joined = ap run_octets (others_joined v y.reached.done (p ∷ [])) ∙ run_octets-append (others_of v y.reached.done) (others_of v (p ∷ [])) in
-      let written = accepted_inj (deliver_answer os (mid_of at (length d - at) d) fit put) in
-      let b = extend os last at (length d - at) y.begun y.place (omega (arith, y.begun.same, t.room)) (omega (arith, t.room)) (deliver_buffer os (mid_of at (length d - at) d) fit put) in
+      let b = extend octets last at (length d - at) y.begun y.place (omega (arith, y.begun.same, room)) (omega (arith, room)) f.holds in
       record {
         reached = then_reached;
         begun = rw joined b;
-        place = rw (joined, length-append (run_octets (others_of v y.reached.done)) os) (omega (arith, y.place));
+        place = rw (joined, length-append (run_octets (others_of v y.reached.done)) octets) (omega (arith, y.place, f.count));
       }
 
 pub copied : {v out d : List ℕ} {s : Parts} {cursor at : ℕ} (k : Walked v s) (y : Copying v out d cursor at) → places v 4 ≡ accepted y.reached.done → record { answer = accepted at; buffer = d } ≡ deliver (accepted (others_octets v)) out

@@ -16,7 +16,7 @@ use Rattle.address.specs.Address.{title, present, sub_param, read_address, write
 use Rattle.address.specs.Steps.Kept.{kept_title, kept_code, kept_sub, kept_pieces}
 use Rattle.address.specs.Again.{with_unknown}
 use Rattle.address.specs.Listing.{other_places}
-use Rattle.address.specs.Steps.Plan.{Ready, head_octets, wire_of, digits_by, Plan, others_octets}
+use Rattle.address.specs.Steps.Plan.{head_octets, wire_of, digits_by, Plan, others_octets}
 use Rattle.address.specs.declared.interpret.Digits.{Digits}
 use Rattle.address.specs.declared.interpret.Digits.TheVariants as D
 use Rattle.address.specs.declared.parts.Parts.{Parts}
@@ -24,6 +24,7 @@ use Rattle.address.proofs.Others.{count_known}
 use Rattle.address.proofs.Unknown.{alike, subs-same}
 use Rattle.address.proofs.Planning.{param_of, code_param, sub_one, rest, kept-written, others-sum}
 use Rattle.address.proofs.Plans.{plan_octets, wire_length_lem}
+use Rattle.address.proofs.Putting.{delivered_inv, delivered_never}
 use Rattle.address.proofs.Copying.{others_of, done-octets, lent_length}
 
 -- The four octets in front.
@@ -51,8 +52,14 @@ pub record Wrote (out p d : List ℕ) (at : ℕ) (qs : List Param) (r : ℕ) (la
 
 module _ {out p d : List ℕ} (at : ℕ) (b : Begun out p d) (place : length p ≡ at) (o : Outcome (List Param)) (qs : List Param) (known : o ≡ accepted qs)
     (room : at + run_length qs ≤ length out) where
-  pub ready_behind : Ready o (mid_of at (length d - at) d)
-  ready_behind = record { params = qs; accepts = known; room = omega (arith, lent_length d at, b.same) }
+  pub wrote_never :
+      {X : Type 0} {n : ℕ} {vs last : List ℕ}
+      → record { answer = refused n vs; buffer = last } ≡ deliver (mapped run_octets o) (mid_of at (length d - at) d)
+      → X
+  wrote_never e =
+      let lent = mid_of at (length d - at) d in
+      delivered_never (run_octets qs) lent (omega (arith, run_length_lem qs, lent_length d at, b.same))
+      (e ∙ ap (λ (o : Outcome (List Param)). deliver (mapped run_octets o) lent) known)
 
   pub wrote :
       (r : ℕ) (last : List ℕ)

@@ -10,7 +10,7 @@ use borrow.Rule.Slice.PartMut.{mid_of, put_mid}
 use lib.Dec.{leb}
 use lib.ListN.{length, take, drop, length-drop}
 use lib.Seq.{length-take-le}
-use Rattle.bcd.specs.Outcome.{Outcome, accepted, refused, pick, after, demand, mapped, each, deliver}
+use Rattle.bcd.specs.Outcome.{Outcome, accepted, refused, pick, after, demand, mapped, each, Delivered, deliver}
 use Rattle.bcd.specs.Digits.{built_in, write_digits}
 use Rattle.bcd.proofs.Outcomes.{accepted_inj, never, mapped_inv, deliver_refused, deliver_buffer, deliver_answer}
 use Rattle.bcd.proofs.Writing.{extend, delivered}
@@ -24,7 +24,7 @@ use Rattle.address.specs.Records.{title_of, title_given, part_given}
 use Rattle.address.specs.Steps.GivenParts.{given_title, given_param, title_room, Roomed}
 use Rattle.address.specs.declared.GlobalTitle.{GlobalTitle}
 use Rattle.address.proofs.Planning.{each_one, title_sized, title_few}
-use Rattle.address.proofs.Putting.{encoded, one_delivered, none_delivered}
+use Rattle.address.proofs.Putting.{one_encoded}
 use Rattle.address.proofs.Copying.{lent_length}
 use Rattle.address.proofs.Lending.{lent_refused, lent_accepted, front_kept}
 use Rattle.address.proofs.TitleRecords.{record_size}
@@ -178,13 +178,8 @@ module _ (g : GlobalTitle) (out : List ℕ) (few : g.count ≤ 255) (long : 255 
 
 -- A sub-parameter of four octets.
 pub four-put :
-    (tag : ℕ) (value out : List ℕ) {p : Outcome ℕ} {last : List ℕ}
+    (tag : ℕ) (value out : List ℕ) {d : Delivered}
     → length value ≡ 4
-    → 8 ≤ length out
-    → record { answer = p; buffer = last } ≡ deliver (encode_param (param tag value)) out
-    → record { answer = accepted 8; buffer = last } ≡ deliver (accepted (run_octets (given_param tag (Some value)))) out
-four-put tag value out {p} {last} l room e =
-    let q = param tag value in
-    let n : padded_length (length q.value) ≡ 8 = rw l in
-    let put = encoded q out (omega arith) (rw n room) e ∙ ap (λ (n : ℕ). param_octets q ++ drop n out) n in
-    one_delivered q 8 last out put n room
+    → d ≡ deliver (encode_param (param tag value)) out
+    → d ≡ deliver (accepted (run_octets (given_param tag (Some value)))) out
+four-put tag value out l e = one_encoded (param tag value) out (omega arith) e

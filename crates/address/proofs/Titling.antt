@@ -1,22 +1,24 @@
 -- A title written from its own octets: they stay, but for the reserved ones, the count, and an odd last high half.
 use Prim.Native.Nat.{ℕ, ◌+◌, ◌-◌, ◌*◌, ◌/◌, ◌%◌, ◌≤◌, ◌<◌, min}
 use mathlib.Core.Path.{◌≡◌, refl, sym, ap, ◌∙◌}
-use mathlib.Core.List.{List, [], ◌∷◌, ◌++◌, append_assoc}
+use mathlib.Core.List.{List, [], ◌∷◌, ◌++◌, append_assoc, append-nil}
 use native.Mathlib.Omega.{arith}
 use lib.ListN.{length, get_or, set, take, drop, replicate, length-append, length-drop}
 use lib.Seq.{take-add, take-suc, set_at, get_or_at, length-take-le}
 use native.Mathlib.Numerals.{add-one}
-use Rattle.bcd.specs.Outcome.{Outcome, accepted, mapped, Octets, deliver}
+use Rattle.bcd.specs.Outcome.{Outcome, accepted, refused, mapped, Octets, deliver}
 use Rattle.bcd.specs.Digits.{halves, pack, built_in, digits_in, write_digits}
 use Rattle.bcd.proofs.Outcomes.{accepted_inj, octets_at, all_drop}
 use Rattle.bcd.proofs.Reading.{digits-length, digits-most}
 use Rattle.bcd.proofs.Rewriting.{octets_even, octets_odd, halves-packed}
-use Rattle.parameter.specs.Parameter.{Param, two, padded_length, param_octets, run_octets, run_length, most_value, encode_param}
+use Rattle.bcd.proofs.Writing.{begin, delivered}
+use Rattle.parameter.specs.Parameter.{Param, param, two, padded_length, param_octets, run_octets, run_length, most_value, encode_param}
+use Rattle.parameter.proofs.RoundTrip.{octets-length}
+use Rattle.parameter.proofs.Encoding.{encode_within}
 use Rattle.address.specs.Address.{title_at, write_title, title, sub_param}
 use Rattle.address.specs.Again.{with_unknown}
-use Rattle.address.specs.Steps.Plan.{Ready}
 use Rattle.address.proofs.Unknown.{digits_as_read}
-use Rattle.address.proofs.Putting.{encoded, one_delivered}
+use Rattle.address.proofs.Putting.{delivered_inv, refused_alike}
 
 -- A title's octets, by the eight in front and the digits' octets.
 abbrev titled : (a b c g n t p o : ℕ) → List ℕ → Param
@@ -94,79 +96,105 @@ module _ (w : List ℕ) (octets : Octets w) (long : 8 ≤ length w) (n : ℕ) (c
   octets_count : length (pack (take n (halves ds))) ≡ (n + 1) / 2
   octets_count = halves-packed ds n (omega (arith, there))
 
-  pub title_room_lem : (out : List ℕ) → Ready (sub_param with_unknown (title (title_at built_in w))) out → padded_length (8 + (n + 1) / 2) ≤ length out
-  unfolding run_length
-  title_room_lem out y =
-      let l = ap run_length (accepted_inj (sym y.accepts ∙ title_param_lem)) in
-      omega (arith, y.room, octets_count)
-
   -- the octets that are handed on, with the first eight apart
   given : take (8 + (n + 1) / 2) w
       ≡ get_or w 0 0 ∷ get_or w 1 0 ∷ get_or w 2 0 ∷ get_or w 3 0 ∷ get_or w 4 0 ∷ get_or w 5 0 ∷ get_or w 6 0 ∷ get_or w 7 0 ∷ take ((n + 1) / 2) ds
   given = take-add 8 ((n + 1) / 2) w ∙ ap (λ l. l ++ take ((n + 1) / 2) ds) (eight w long)
 
-  module _ (out : List ℕ) (y : Ready (sub_param with_unknown (title (title_at built_in w))) out) (last : List ℕ) (answer : Outcome ℕ)
-      (e : record { answer = answer; buffer = last } ≡ deliver (encode_param (record { tag = 0x8001; value = take (8 + (n + 1) / 2) w })) out) where
-    abbrev kept : List ℕ → Param
-    kept os = titled 0 0 0 (get_or w 3 0) n (get_or w 5 0) (get_or w 6 0) (get_or w 7 0) os
+  -- the sub-parameter with the octets that are handed on, and with those that are written
+  abbrev lent : Param
+  lent = param 0x8001 (take (8 + (n + 1) / 2) w)
 
-    abbrev patched : List ℕ
-    patched = set (set (set (set last 4 0) 5 0) 6 0) 8 n
+  abbrev kept : List ℕ → Param
+  kept os = titled 0 0 0 (get_or w 3 0) n (get_or w 5 0) (get_or w 6 0) (get_or w 7 0) os
 
-    size : length (take (8 + (n + 1) / 2) w) ≡ 8 + (n + 1) / 2
-    size = length-take-le (8 + (n + 1) / 2) w (omega (arith, count))
+  abbrev packed : List ℕ
+  packed = pack (take n (halves ds))
 
-    few : n ≤ 255 → length (take (8 + (n + 1) / 2) w) ≤ most_value
-    few h = rw size (omega arith)
+  size : length lent.value ≡ 8 + (n + 1) / 2
+  size = length-take-le (8 + (n + 1) / 2) w (omega (arith, count))
 
-    buffer : n ≤ 255 → patched ≡ param_octets (kept (take ((n + 1) / 2) ds)) ++ drop (padded_length (8 + (n + 1) / 2)) out
-    buffer h =
-        let r = drop (padded_length (8 + (n + 1) / 2)) out in
-        let q : Param = record { tag = 0x8001; value = take (8 + (n + 1) / 2) w } in
-        let put = encoded q out (few h) (rw size (title_room_lem out y)) e ∙ ap (λ (k : ℕ). param_octets q ++ drop (padded_length k) out) size in
-        let same = put ∙ ap (λ v. param_octets (record { tag = 0x8001; value = v }) ++ r) given in
-        ap (λ d. set (set (set (set d 4 0) 5 0) 6 0) 8 n) same
-        ∙ patch (get_or w 0 0) (get_or w 1 0) (get_or w 2 0) (get_or w 3 0) (get_or w 4 0) (get_or w 5 0) (get_or w 6 0) (get_or w 7 0) n (take ((n + 1) / 2) ds) r
+  sizes : length (param_octets lent) ≡ padded_length (8 + (n + 1) / 2)
+  sizes = octets-length lent ∙ ap padded_length size
 
-    done :
-        (d : List ℕ) (l : ℕ)
-        → l ≡ padded_length (8 + (n + 1) / 2)
-        → d ≡ param_octets (kept (pack (take n (halves ds)))) ++ drop (padded_length (8 + (n + 1) / 2)) out
-        → record { answer = accepted l; buffer = d } ≡ deliver (mapped run_octets (sub_param with_unknown (title (title_at built_in w)))) out
-    done d l m h =
-        let q = kept (pack (take n (halves ds))) in
-        one_delivered q l d out (h ∙ ap (λ (k : ℕ). param_octets q ++ drop k out) (sym m)) (omega (arith, octets_count)) (omega (arith, title_room_lem out y))
-        ∙ ap (λ (o : Outcome (List Param)). deliver (mapped run_octets o) out) (sym title_param_lem)
+  kept_size : length (param_octets (kept packed)) ≡ padded_length (8 + (n + 1) / 2)
+  kept_size = octets-length (kept packed) ∙ ap (λ (k : ℕ). padded_length (8 + k)) octets_count
 
-    pub put_even :
-        (l : ℕ)
-        → n ≤ 255
-        → n % 2 ≡ 0
-        → l ≡ padded_length (8 + (n + 1) / 2)
-        → record { answer = accepted l; buffer = patched } ≡ deliver (mapped run_octets (sub_param with_unknown (title (title_at built_in w)))) out
-    put_even l h even m =
-        let k : n ≡ 2 * ((n + 1) / 2) = omega arith in
-        let same : pack (take n (halves ds)) ≡ take ((n + 1) / 2) ds =
-        ap (λ (i : ℕ). pack (take i (halves ds))) k ∙ octets_even ((n + 1) / 2) ds (omega (arith, there)) in
-        done patched l m (buffer h ∙ ap (λ os. param_octets (kept os) ++ drop (padded_length (8 + (n + 1) / 2)) out) (sym same))
+  encoded : encode_param lent ≡ accepted (param_octets lent)
+  encoded = encode_within lent (rw size (omega (arith, few_digits)))
 
-    pub put_odd :
-        (l i : ℕ)
-        → n ≤ 255
-        → (n % 2 ≡ 0 → ⊥)
-        → l ≡ padded_length (8 + (n + 1) / 2)
-        → i ≡ 11 + (n + 1) / 2
-        → record { answer = accepted l; buffer = set patched i (get_or patched i 0 % 16) } ≡ deliver (mapped run_octets (sub_param with_unknown (title (title_at built_in w)))) out
-    put_odd l i h odd m at =
-        let k : n ≡ 2 * (n / 2) + 1 = omega arith in
-        let half : (n + 1) / 2 ≡ n / 2 + 1 = omega arith in
-        let short : n / 2 < length ds = omega (arith, there) in
-        let same : pack (take n (halves ds)) ≡ take (n / 2) ds ++ (get_or ds (n / 2) 0 % 16 ∷ []) =
-        ap (λ (i : ℕ). pack (take i (halves ds))) k ∙ octets_odd (n / 2) ds short in
-        let split : take ((n + 1) / 2) ds ≡ take (n / 2) ds ++ (get_or ds (n / 2) 0 ∷ []) = rw (half, add-one) (take-suc ds (n / 2) 0 short) in
-        let r = drop (padded_length (8 + (n + 1) / 2)) out in
-        let b = buffer h ∙ ap (λ os. param_octets (kept os) ++ r) split in
-        let place : i ≡ 12 + length (take (n / 2) ds) = rw (length-take-le (n / 2) ds (omega arith)) (omega arith) in
-        done _ l m (ap (λ d. set d i (get_or d i 0 % 16)) b
-        ∙ patch_last 0 0 0 (get_or w 3 0) n (get_or w 5 0) (get_or w 6 0) (get_or w 7 0) (take (n / 2) ds) r (get_or ds (n / 2) 0) i place
-        ∙ ap (λ os. param_octets (kept os) ++ r) (sym same))
+  written : mapped run_octets (sub_param with_unknown (title (title_at built_in w))) ≡ accepted (param_octets (kept packed))
+  unfolding run_octets
+  written = ap (mapped run_octets) title_param_lem ∙ ap accepted (append-nil (param_octets (kept packed)))
+
+  module _ (out last : List ℕ) where
+    pub put_refused :
+        {m : ℕ} {vs : List ℕ}
+        → record { answer = refused m vs; buffer = last } ≡ deliver (encode_param lent) out
+        → record { answer = refused m vs; buffer = last } ≡ deliver (mapped run_octets (sub_param with_unknown (title (title_at built_in w)))) out
+    put_refused e =
+        refused_alike (param_octets lent) (param_octets (kept packed)) out (sizes ∙ sym kept_size) (e ∙ ap (λ (o : Outcome (List ℕ)). deliver o out) encoded)
+        ∙ ap (λ (o : Outcome (List ℕ)). deliver o out) (sym written)
+
+    module _ (l : ℕ) (e : record { answer = accepted l; buffer = last } ≡ deliver (encode_param lent) out) where
+      -- Its octets are there.
+      pub record Put : Type 0 where
+        pub takes : l ≡ padded_length (8 + (n + 1) / 2)
+        pub room : l ≤ length out
+        pub holds : last ≡ param_octets lent ++ drop l out
+        pub whole : length last ≡ length out
+
+      pub put : Put
+      put =
+          let f = delivered_inv (param_octets lent) out (e ∙ ap (λ (o : Outcome (List ℕ)). deliver o out) encoded) in
+          record {
+            takes = f.count ∙ sizes;
+            room = omega (arith, f.count, f.room);
+            holds = f.holds ∙ ap (λ (k : ℕ). param_octets lent ++ drop k out) (sym f.count);
+            whole = (begin out (param_octets lent) last f.room f.holds).same;
+          }
+
+      abbrev patched : List ℕ
+      patched = set (set (set (set last 4 0) 5 0) 6 0) 8 n
+
+      buffer : patched ≡ param_octets (kept (take ((n + 1) / 2) ds)) ++ drop l out
+      buffer =
+          let same = put.holds ∙ ap (λ v. param_octets (param 0x8001 v) ++ drop l out) given in
+          ap (λ d. set (set (set (set d 4 0) 5 0) 6 0) 8 n) same
+          ∙ patch (get_or w 0 0) (get_or w 1 0) (get_or w 2 0) (get_or w 3 0) (get_or w 4 0) (get_or w 5 0) (get_or w 6 0) (get_or w 7 0) n (take ((n + 1) / 2) ds) (drop l out)
+
+      done :
+          (d : List ℕ)
+          → d ≡ param_octets (kept packed) ++ drop l out
+          → record { answer = accepted l; buffer = d } ≡ deliver (mapped run_octets (sub_param with_unknown (title (title_at built_in w)))) out
+      done d h =
+          let p = put in
+          let same : length (param_octets (kept packed)) ≡ l = kept_size ∙ sym p.takes in
+          delivered l (begin out (param_octets (kept packed)) d (omega (arith, same, p.room)) (h ∙ ap (λ (k : ℕ). param_octets (kept packed) ++ drop k out) (sym same))) same
+          ∙ ap (λ (o : Outcome (List ℕ)). deliver o out) (sym written)
+
+      pub put_even : (n % 2 ≡ 1 → ⊥) → record { answer = accepted l; buffer = patched } ≡ deliver (mapped run_octets (sub_param with_unknown (title (title_at built_in w)))) out
+      put_even odd =
+          let k : n ≡ 2 * ((n + 1) / 2) = omega arith in
+          let same : packed ≡ take ((n + 1) / 2) ds =
+          ap (λ (i : ℕ). pack (take i (halves ds))) k ∙ octets_even ((n + 1) / 2) ds (omega (arith, there)) in
+          done patched (buffer ∙ ap (λ os. param_octets (kept os) ++ drop l out) (sym same))
+
+      pub put_odd :
+          (i : ℕ)
+          → n % 2 ≡ 1
+          → i ≡ 11 + (n + 1) / 2
+          → record { answer = accepted l; buffer = set patched i (get_or patched i 0 % 16) } ≡ deliver (mapped run_octets (sub_param with_unknown (title (title_at built_in w)))) out
+      put_odd i odd at =
+          let k : n ≡ 2 * (n / 2) + 1 = omega arith in
+          let half : (n + 1) / 2 ≡ n / 2 + 1 = omega arith in
+          let short : n / 2 < length ds = omega (arith, there) in
+          let same : packed ≡ take (n / 2) ds ++ (get_or ds (n / 2) 0 % 16 ∷ []) =
+          ap (λ (i : ℕ). pack (take i (halves ds))) k ∙ octets_odd (n / 2) ds short in
+          let split : take ((n + 1) / 2) ds ≡ take (n / 2) ds ++ (get_or ds (n / 2) 0 ∷ []) = rw (half, add-one) (take-suc ds (n / 2) 0 short) in
+          let r = drop l out in
+          let b = buffer ∙ ap (λ os. param_octets (kept os) ++ r) split in
+          let place : i ≡ 12 + length (take (n / 2) ds) = rw (length-take-le (n / 2) ds (omega arith)) (omega arith) in
+          done _ (ap (λ d. set d i (get_or d i 0 % 16)) b
+          ∙ patch_last 0 0 0 (get_or w 3 0) n (get_or w 5 0) (get_or w 6 0) (get_or w 7 0) (take (n / 2) ds) r (get_or ds (n / 2) 0) i place
+          ∙ ap (λ os. param_octets (kept os) ++ r) (sym same))

@@ -15,7 +15,7 @@ use crate::parts::Parts;
 use crate::rewrite::is_other;
 use crate::{GlobalTitle, RoutingIndicator, SuaAddress};
 use bcd::error::Refusal;
-use parameter::{Cursor, Place};
+use parameter::{Parameters, Place};
 
 // The title that is kept, if there is one.
 fn title_in(value: &[u8], kept: Option<Place>) -> Result<Option<GlobalTitle>, Refusal>
@@ -94,11 +94,9 @@ fn list_others(value: &[u8], parts: Parts, rows: &mut [Place]) -> Result<usize, 
     requires other_count_in_bounds { parts.other_count ≤ length rows.old }
     ensures { tabulated (outcome_of result) rows.new ≡ tabulate (address_places value.now) rows.old }
 {
-    let mut c = Cursor { at: 4 };
     let mut row = 0;
-    while let Some((place, next)) = c.step(value)? {
-        row = list_other(place, row, rows);
-        c = next;
+    for place in Parameters::new(value, 4) {
+        row = list_other(place?, row, rows);
     }
     Ok(row)
 }

@@ -1,6 +1,6 @@
 // Addresses written from their records (address.rs; RFC 3868, 3.10.2).
-ghost use Rattle.std.specs.Prelude.{◌≡◌, ◌++◌, ◌≤◌, length, drop, option_map, is_some};
-ghost use Rattle.bcd.specs.Outcome.{accepted, pick, mapped, delivered, deliver};
+ghost use Rattle.std.specs.Prelude.{◌≡◌, ◌++◌, ◌≤◌, length, drop};
+ghost use Rattle.bcd.specs.Outcome.{accepted, mapped, delivered, deliver};
 ghost use Rattle.bcd.specs.Answers.{outcome_of};
 ghost use Rattle.parameter.specs.Parameter.{run_octets, run_length};
 ghost use Rattle.address.specs.Given.{encode_address_as, encode_address};
@@ -79,17 +79,15 @@ fn room_for(tag: u16, address: &SuaAddress, others: Records<'_>) -> Result<usize
     length_with(tag, title_room(&address.global_title), address, others)
 }
 
-// Writes a point code or an SSN, if it is there.
-fn write_four(tag: u16, value: Option<[u8; 4]>, out: &mut [u8]) -> usize
-    requires { pick (is_some value) 8 0 ≤ length out.old }
-    ensures { delivered (accepted result) out.new
+// Writes a sub-parameter of four octets, as a point code or an SSN, if it is there. 14.
+pub fn write_four(tag: u16, value: Option<[u8; 4]>, out: &mut [u8]) -> Result<usize, Refusal>
+    ensures { delivered (outcome_of result) out.new
         ≡ deliver (accepted (run_octets (given_param tag value))) out.old }
 {
-    let Some(octets) = value else {
-        return 0;
-    };
-    let _ = parameter::encode(tag, &octets, out);
-    8
+    match value {
+        None => Ok(0),
+        Some(octets) => parameter::encode(tag, &octets, out),
+    }
 }
 
 impl SuaAddress {
@@ -129,10 +127,10 @@ impl SuaAddress {
         let a = 4 + self.write_title(&mut out[4..])?;
         self.write_head(out);
         let code = self.point_code.map(|code| code.to_be_bytes());
-        let b = a + write_four(POINT_CODE, code, &mut out[a..]);
+        let b = a + write_four(POINT_CODE, code, &mut out[a..])?;
         let ssn = self.ssn.map(|ssn| [0, 0, 0, ssn]);
-        let c = b + write_four(SUBSYSTEM_NUMBER, ssn, &mut out[b..]);
-        let _ = others.encode_parameters(self.other_count, &mut out[c..]);
+        let c = b + write_four(SUBSYSTEM_NUMBER, ssn, &mut out[b..])?;
+        others.encode_parameters(self.other_count, &mut out[c..])?;
         Ok(total)
     }
 

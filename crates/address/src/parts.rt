@@ -6,7 +6,7 @@ ghost use Rattle.parameter.specs.Walk.{places};
 ghost use Rattle.address.specs.Parts.{nothing, sooner, noted, note_all};
 
 use bcd::error::Refusal;
-use parameter::{Cursor, Place, tags};
+use parameter::{Parameters, Place, tags};
 
 // The first sub-parameter that is too short for its tag; the last title, point code and SSN; and of the others, how many
 // there are and what they take on the wire.
@@ -83,10 +83,8 @@ pub(crate) fn survey(value: &[u8]) -> Result<Parts, Refusal>
         ≡ bounded value.now (mapped (note_all nothing) (places value.now 4)) }
 {
     let mut parts = Parts::none();
-    let mut c = Cursor { at: 4 };
-    while let Some((place, next)) = c.step(value)? {
-        parts = parts.note(place);
-        c = next;
+    for place in Parameters::new(value, 4) {
+        parts = parts.note(place?);
     }
     Ok(parts)
 }

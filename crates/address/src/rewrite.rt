@@ -4,18 +4,18 @@ ghost use Rattle.std.specs.Prelude.{◌≡◌, ◌∷◌, [], ◌++◌, map, ◌
 ghost use Rattle.bcd.specs.Outcome.{accepted, after, mapped, each, delivered, deliver};
 ghost use Rattle.bcd.specs.Answers.{outcome_of};
 ghost use Rattle.bcd.specs.Digits.{built_in};
-ghost use Rattle.parameter.specs.Parameter.{run_octets, run_length, most_value};
+ghost use Rattle.parameter.specs.Parameter.{run_octets, most_value};
 ghost use Rattle.parameter.specs.Walk.{valued};
 ghost use Rattle.address.specs.Address.{title_at, title, code, sub, present, sub_param, read_address, write_address};
 ghost use Rattle.address.specs.Steps.Kept.{kept_title, kept_code, kept_sub};
 ghost use Rattle.address.specs.Again.{with_unknown};
 ghost use Rattle.address.specs.Listing.{is_other, other_places};
-ghost use Rattle.address.specs.Steps.Plan.{HeldIn, Ready, Walked, digits_by, Plan, head_octets, others_octets};
+ghost use Rattle.address.specs.Steps.Plan.{HeldIn, Walked, digits_by, Plan, head_octets, others_octets};
 
 use crate::interpret::{Digits, plan};
 use crate::parts::Parts;
 use bcd::error::Refusal;
-use parameter::{Cursor, Place, tags};
+use parameter::{Parameters, Place, tags};
 
 // How many octets an address value has when it is read and written again. Reading's refusals, then 9, then 10.
 pub fn rewritten_length(tag: u16, value: &[u8]) -> Result<usize, Refusal>
@@ -45,74 +45,70 @@ fn clear_high(out: &mut [u8], i: usize)
 }
 
 // Writes a title, given by its value, as one parameter: its octets as they are, but for the reserved ones, the count of
-// the digits that are there, and an odd last high half.
-fn put_title(value: &[u8], out: &mut [u8]) -> usize
-    requires in_bounds { 8 ≤ length value.now }
-    requires ready { Ready (sub_param with_unknown (title (title_at built_in value.now))) out.old }
-    ensures { delivered (accepted result) out.new
+// the digits that are there, and an odd last high half. 14.
+fn put_title(value: &[u8], out: &mut [u8]) -> Result<usize, Refusal>
+    requires { 8 ≤ length value.now }
+    ensures { delivered (outcome_of result) out.new
         ≡ deliver (mapped run_octets (sub_param with_unknown (title (title_at built_in value.now)))) out.old }
 {
     let count = value[4];
     let digits = usize::from(count).min(2 * (value.len() - 8));
     let octets = digits.div_ceil(2);
-    let end = 8 + octets;
-    let _ = parameter::encode(tags::GLOBAL_TITLE, &value[..end], out);
+    let length = parameter::encode(tags::GLOBAL_TITLE, &value[..8 + octets], out)?;
     clear_reserved(out);
     out[8] = digits as u8;
     if digits % 2 == 1 {
         clear_high(out, 11 + octets);
     }
-    (4 + end).next_multiple_of(4)
+    Ok(length)
 }
 
-// Writes the title, if there is one.
-fn write_title(value: &[u8], kept: Option<Place>, out: &mut [u8]) -> usize
-    requires held_in { HeldIn value.now 8 kept }
-    requires ready { Ready (each (sub_param with_unknown) (present title (kept_title built_in value.now kept))) out.old }
-    ensures { delivered (accepted result) out.new
+// Writes the title, if there is one. 14.
+fn write_title(value: &[u8], kept: Option<Place>, out: &mut [u8]) -> Result<usize, Refusal>
+    requires { HeldIn value.now 8 kept }
+    ensures { delivered (outcome_of result) out.new
         ≡ deliver
         (mapped run_octets (each (sub_param with_unknown) (present title (kept_title built_in value.now kept))))
         out.old }
 {
-    let Some(place) = kept else {
-        return 0;
-    };
-    put_title(place.value(value), out)
+    match kept {
+        None => Ok(0),
+        Some(place) => put_title(place.value(value), out),
+    }
 }
 
-// Writes the point code, if there is one.
-fn write_code(value: &[u8], kept: Option<Place>, out: &mut [u8]) -> usize
-    requires held_in { HeldIn value.now 4 kept }
-    requires ready { Ready (each (sub_param with_unknown) (present code (kept_code value.now kept))) out.old }
-    ensures { delivered (accepted result) out.new
+// Writes the point code, if there is one. 14.
+fn write_code(value: &[u8], kept: Option<Place>, out: &mut [u8]) -> Result<usize, Refusal>
+    requires { HeldIn value.now 4 kept }
+    ensures { delivered (outcome_of result) out.new
         ≡ deliver
         (mapped run_octets (each (sub_param with_unknown) (present code (kept_code value.now kept))))
         out.old }
 {
-    let Some(place) = kept else {
-        return 0;
-    };
-    let start = place.start;
-    let _ = parameter::encode(tags::POINT_CODE, &value[start..start + 4], out);
-    8
+    match kept {
+        None => Ok(0),
+        Some(place) => {
+            let octets = &value[place.start..place.start + 4];
+            parameter::encode(tags::POINT_CODE, octets, out)
+        }
+    }
 }
 
-// Writes the SSN, if there is one: three reserved octets, and the fourth.
-fn write_ssn(value: &[u8], kept: Option<Place>, out: &mut [u8]) -> usize
-    requires held_in { HeldIn value.now 4 kept }
-    requires ready { Ready (each (sub_param with_unknown) (present sub (kept_sub value.now kept))) out.old }
-    ensures { delivered (accepted result) out.new
+// Writes the SSN, if there is one: three reserved octets, and the fourth. 14.
+fn write_ssn(value: &[u8], kept: Option<Place>, out: &mut [u8]) -> Result<usize, Refusal>
+    requires { HeldIn value.now 4 kept }
+    ensures { delivered (outcome_of result) out.new
         ≡ deliver
         (mapped run_octets (each (sub_param with_unknown) (present sub (kept_sub value.now kept))))
         out.old }
 {
-    let Some(place) = kept else {
-        return 0;
-    };
-    let start = place.start;
-    let _ = parameter::encode(tags::SUBSYSTEM_NUMBER, &value[start..start + 4], out);
-    clear_reserved(out);
-    8
+    match kept {
+        None => Ok(0),
+        Some(place) => {
+            let octets = [0, 0, 0, value[place.start + 3]];
+            parameter::encode(tags::SUBSYSTEM_NUMBER, &octets, out)
+        }
+    }
 }
 
 // Whether a sub-parameter is no title, point code or SSN.
@@ -125,19 +121,16 @@ pub fn is_other(tag: u16) -> bool
     )
 }
 
-// Writes a sub-parameter of the walk, if it is another one.
-fn write_other(value: &[u8], place: Place, out: &mut [u8]) -> usize
-    requires length_in_bounds { place.start + place.length ≤ length value.now }
-    requires length_le_most_value { place.length ≤ most_value }
-    requires place_in_bounds { run_length (map (valued value.now) (other_places (place ∷ []))) ≤ length out.old }
-    ensures { delivered (accepted result) out.new
+// Writes a sub-parameter of the walk, if it is another one. 14.
+fn write_other(value: &[u8], place: Place, out: &mut [u8]) -> Result<usize, Refusal>
+    requires { place.length ≤ most_value }
+    ensures { delivered (outcome_of result) out.new
         ≡ deliver (accepted (run_octets (map (valued value.now) (other_places (place ∷ []))))) out.old }
 {
-    if is_other(place.tag) {
-        let _ = parameter::encode(place.tag, place.value(value), out);
-        return (4 + place.length).next_multiple_of(4);
+    if !is_other(place.tag) {
+        return Ok(0);
     }
-    0
+    parameter::encode(place.tag, place.value(value), out)
 }
 
 // Writes the other sub-parameters, in order, by a second walk.
@@ -146,11 +139,9 @@ fn write_others(value: &[u8], parts: Parts, out: &mut [u8]) -> Result<usize, Ref
     requires other_length_in_bounds { parts.other_length ≤ length out.old }
     ensures { delivered (outcome_of result) out.new ≡ deliver (accepted (others_octets value.now)) out.old }
 {
-    let mut c = Cursor { at: 4 };
     let mut at = 0;
-    while let Some((place, next)) = c.step(value)? {
-        at += write_other(value, place, &mut out[at..]);
-        c = next;
+    for place in Parameters::new(value, 4) {
+        at += write_other(value, place?, &mut out[at..])?;
     }
     Ok(at)
 }
@@ -172,9 +163,9 @@ fn write(value: &[u8], parts: Parts, total: usize, out: &mut [u8]) -> Result<usi
         ≡ deliver (after (read_address built_in value.now) (write_address with_unknown 0)) out.old }
 {
     write_head(value, out);
-    let a = 4 + write_title(value, parts.title, &mut out[4..]);
-    let b = a + write_code(value, parts.code, &mut out[a..]);
-    let c = b + write_ssn(value, parts.ssn, &mut out[b..]);
+    let a = 4 + write_title(value, parts.title, &mut out[4..])?;
+    let b = a + write_code(value, parts.code, &mut out[a..])?;
+    let c = b + write_ssn(value, parts.ssn, &mut out[b..])?;
     if 0 < parts.other_count {
         write_others(value, parts, &mut out[c..])?;
     }

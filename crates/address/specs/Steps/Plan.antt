@@ -24,12 +24,6 @@ abbrev pub HeldIn : List ℕ → (least : ℕ) → Option Place → Type 0
 HeldIn v least None = Unit {0}
 HeldIn v least (Some p) = (p.start + p.length ≤ length v) × (least ≤ p.length)
 
--- Sub-parameters that can be written, with room for them.
-pub record Ready (o : Outcome (List Param)) (out : List ℕ) : Type 0 where
-  pub params : List Param
-  pub accepts : o ≡ accepted params
-  pub room : run_length params ≤ length out
-
 -- An address value that reads without refusal but for a sub-parameter that is too short.
 pub record Walked (v : List ℕ) (s : Parts) : Type 0 where
   pub octets : Octets v

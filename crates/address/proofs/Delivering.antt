@@ -5,7 +5,7 @@ use mathlib.Core.List.{List, [], ◌∷◌, ◌++◌, map, append_assoc, append-
 use native.Mathlib.Omega.{arith}
 use lib.ListN.{length, get_or, set, drop, length-append}
 use borrow.Rule.Slice.PartMut.{mid_of, put_mid}
-use Rattle.bcd.specs.Outcome.{Outcome, accepted, after, mapped, each, deliver}
+use Rattle.bcd.specs.Outcome.{Outcome, accepted, refused, after, mapped, each, deliver}
 use Rattle.bcd.specs.Digits.{built_in}
 use Rattle.bcd.proofs.Outcomes.{accepted_inj, each_split, deliver_buffer, deliver_answer}
 use Rattle.bcd.proofs.Writing.{Begun, extend, delivered}

@@ -38,8 +38,8 @@ delivered_inv os out {n} {last} e = go (leb (length os) (length out)) refl e
     go :
         (t : Bool)
         → leb (length os) (length out) ≡ t
-        → record { answer = accepted n; buffer = last }
-        ≡ pick t (record { answer = accepted (length os); buffer = os ++ drop (length os) out }) (record { answer = refused 14 (length os ∷ []); buffer = out })
+        → ◌≡◌ {A = Delivered} (record { answer = accepted n; buffer = last })
+        (pick t (record { answer = accepted (length os); buffer = os ++ drop (length os) out }) (record { answer = refused 14 (length os ∷ []); buffer = out }))
         → Fits os out n last
     go true h e = record { count = accepted_inj (ap (λ (d : Delivered). d.answer) e); room = leb-true (length os) (length out) h; holds = ap (λ (d : Delivered). d.buffer) e }
     go false h e = absurd (never (sym (ap (λ (d : Delivered). d.answer) e)))
@@ -60,10 +60,10 @@ refused_alike os us out {n} {vs} {last} l e = go (leb (length os) (length out)) 
     go :
         (t : Bool)
         → leb (length os) (length out) ≡ t
-        → record { answer = refused n vs; buffer = last }
-        ≡ pick t (record { answer = accepted (length os); buffer = os ++ drop (length os) out }) (record { answer = refused 14 (length os ∷ []); buffer = out })
-        → record { answer = refused n vs; buffer = last }
-        ≡ pick (leb (length us) (length out)) (record { answer = accepted (length us); buffer = us ++ drop (length us) out }) (record { answer = refused 14 (length us ∷ []); buffer = out })
+        → ◌≡◌ {A = Delivered} (record { answer = refused n vs; buffer = last })
+        (pick t (record { answer = accepted (length os); buffer = os ++ drop (length os) out }) (record { answer = refused 14 (length os ∷ []); buffer = out }))
+        → ◌≡◌ {A = Delivered} (record { answer = refused n vs; buffer = last })
+        (pick (leb (length us) (length out)) (record { answer = accepted (length us); buffer = us ++ drop (length us) out }) (record { answer = refused 14 (length us ∷ []); buffer = out }))
     go true h e = absurd (never (ap (λ (d : Delivered). d.answer) e))
     go false h e = rw (← l, h) e
 

@@ -118,7 +118,7 @@ module _ (w : List ℕ) (octets : Octets w) (long : 8 ≤ length w) (n : ℕ) (c
   sizes = octets-length lent ∙ ap padded_length size
 
   kept_size : length (param_octets (kept packed)) ≡ padded_length (8 + (n + 1) / 2)
-  kept_size = octets-length (kept packed) ∙ ap (λ (k : ℕ). padded_length (8 + k)) octets_count
+  kept_size = octets-length (kept packed) ∙ omega (arith, octets_count)
 
   encoded : encode_param lent ≡ accepted (param_octets lent)
   encoded = encode_within lent (rw size (omega (arith, few_digits)))

@@ -171,6 +171,7 @@ impl SuaAddress {
     }
 
     // The 16-bit address indicator: 1 SSN, 2 point code, 4 title (RFC 3868, 3.10.2.2).
+    #[tactic(auto, unfolding(crate::specs::Address::indicator))]
     pub fn address_indicator(&self) -> u16
         ensures { result ≡ indicator (address_of self.now []) }
     {

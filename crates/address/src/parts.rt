@@ -46,6 +46,7 @@ impl Parts {
     }
 
     // One sub-parameter more. The last of each kind holds.
+    #[tactic(auto, unfolding(crate::specs::Parts::noted))]
     fn note(self, place: Place) -> Parts
         requires other_count_bound { self.other_count ≤ 1048576 }
         requires other_length_bound { self.other_length ≤ 1048576 }

@@ -177,9 +177,9 @@ module _ (g : GlobalTitle) (out : List ℕ) (few : g.count ≤ 255) (long : 255 
       ∙ ap (λ (o : Outcome (List ℕ)). deliver o out) (sym known)
 
 -- A sub-parameter of four octets.
-pub four-put :
+pub four_put :
     (tag : ℕ) (value out : List ℕ) {d : Delivered}
     → length value ≡ 4
     → d ≡ deliver (encode_param (param tag value)) out
     → d ≡ deliver (accepted (run_octets (given_param tag (Some value)))) out
-four-put tag value out l e = one_encoded (param tag value) out (omega arith) e
+four_put tag value out l e = one_encoded (param tag value) out (omega arith) e

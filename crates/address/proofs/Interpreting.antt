@@ -5,11 +5,12 @@ use mathlib.Core.Bool.{Bool, true, false}
 use Rattle.std.specs.Prelude.{None, Some}
 use mathlib.Core.List.{List, [], ◌∷◌, map}
 use native.Mathlib.Omega.{arith}
-use borrow.Author.Tests.{le-leb, lt-leb}
+use borrow.Author.Tests.{le-leb, lt-leb, leb-true}
+use lib.Dec.{leb}
 use lib.ListN.{length, get_or, drop}
 use Rattle.bcd.specs.Outcome.{accepted, refused, pick, mapped, All, most}
 use Rattle.bcd.specs.Digits.{Alphabet}
-use Rattle.bcd.proofs.Outcomes.{bounded-within, bounded_beyond}
+use Rattle.bcd.proofs.Outcomes.{demand_inv, bounded-within, bounded_beyond}
 use Rattle.parameter.specs.Parameter.{run_length, two_at, four_in}
 use Rattle.parameter.specs.Walk.{valued, places, parameters}
 use Rattle.parameter.specs.declared.Place.{Place}
@@ -117,12 +118,16 @@ module _ (A : Alphabet) (v : List ℕ) where
     read_few h = bounded-within v (address_in A v) within ∙ rw (lt-leb 4 (length v) h)
 
     module _ (long : 4 ≤ length v) where
-      pub read_unrouted : 4 < two_at v 0 → read_address A v ≡ refused 8 (two_at v 0 ∷ [])
+      pub read_unrouted : (n : ℕ) (vs : List ℕ) → refused n vs ≡ routing_in (two_at v 0) → read_address A v ≡ refused n vs
       unfolding read_address address_in
-      read_unrouted h = bounded-within v (address_in A v) within ∙ rw (le-leb 4 (length v) long, lt-leb (two_at v 0) 4 h)
+      read_unrouted n vs e = bounded-within v (address_in A v) within ∙ rw (le-leb 4 (length v) long, ← e)
 
       pub read_unwalked : (n : ℕ) (vs : List ℕ) → two_at v 0 ≤ 4 → places v 4 ≡ refused n vs → read_address A v ≡ refused n vs
       unfolding read_address address_in
       read_unwalked n vs routing e =
           let params : parameters (drop 4 v) ≡ refused n vs = sym (places-parameters v 4) ∙ ap (mapped (map (valued v))) e in
           bounded-within v (address_in A v) within ∙ rw (le-leb 4 (length v) long, le-leb (two_at v 0) 4 routing, params)
+
+-- The routing indicator is small where it is one.
+pub routed : (n : ℕ) {i : ℕ} → accepted i ≡ routing_in n → n ≤ 4
+routed n e = leb-true n 4 (demand_inv (leb n 4) _ _ _ (sym e)).0

@@ -68,12 +68,6 @@ title_sized A t = go (write_digits A t.digits)
     go (accepted os) = ap accepted (omega arith)
     go (refused n vs) = refl
 
-pub title_measured :
-    (w : List ℕ)
-    → mapped run_length (sub_param built_in (title (title_at built_in w)))
-    ≡ mapped (λ n. padded_length (8 + n)) (mapped length (write_digits built_in (digits_in built_in (drop 8 w) (get_or w 4 0))))
-title_measured w = title_sized built_in (title_at built_in w)
-
 read-digits : (xs : List ℕ) (count : ℕ) → length xs ≤ most → after (read_digits built_in xs count) (write_digits built_in) ≡ write_digits built_in (digits_in built_in xs count)
 unfolding read_digits
 read-digits xs count h = ap (λ (o : Outcome (List ℕ)). after o (write_digits built_in)) (bounded-within xs (accepted (digits_in built_in xs count)) h)
@@ -89,9 +83,18 @@ read_part v count h =
     ap (λ xs. after (read_digits built_in xs count) (write_digits built_in)) (whole_part 8 v)
     ∙ read-digits (drop 8 v) count (omega (arith, length-drop 8 v))
 
+-- What a title that is kept takes, by its digits.
+pub kept_sized :
+    (A : Alphabet) (v : List ℕ) (p : Place) (o : Outcome ℕ)
+    → o ≡ mapped length (write_digits A (title_at built_in (valued v p).value).digits)
+    → mapped (λ n. padded_length (8 + n)) o ≡ mapped run_length (each (sub_param A) (present title (kept_title built_in v (Some p))))
+kept_sized A v p o e =
+    let t = title_at built_in (valued v p).value in
+    ap (mapped (λ n. padded_length (8 + n))) e ∙ sym (title_sized A t) ∙ ap (mapped run_length) (sym (each_one (sub_param A) (title t)))
+
 -- It takes at most 140 octets.
 module _ (A : Alphabet) (L : Lawful A) where
-  digits_few : (cs : List ℕ) (n : ℕ) → accepted n ≡ mapped length (write_digits A cs) → n ≤ 128
+  pub digits_few : (cs : List ℕ) (n : ℕ) → accepted n ≡ mapped length (write_digits A cs) → n ≤ 128
   unfolding write_digits
   digits_few cs n e =
       let (os, w, k) = mapped_inv length (write_digits A cs) (sym e) in

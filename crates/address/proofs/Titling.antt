@@ -78,23 +78,24 @@ module _ (w : List ℕ) (octets : Octets w) (long : 8 ≤ length w) (n : ℕ) (c
   few_digits : n ≤ 255
   few_digits = omega (arith, octets_at w 4 octets)
 
+  packed_lem : write_digits with_unknown (digits_in built_in ds (get_or w 4 0)) ≡ accepted (pack (take n (halves ds)))
+  packed_lem =
+      let most = sym (ap (digits_in built_in ds) there ∙ digits-most built_in ds (get_or w 4 0)) in
+      ap (write_digits with_unknown) most ∙ digits_as_read ds n (all_drop (λ (x : ℕ). x < 256) 8 w octets) few_digits
+
   title_param_lem : sub_param with_unknown (title (title_at built_in w))
       ≡ accepted (titled 0 0 0 (get_or w 3 0) n (get_or w 5 0) (get_or w 6 0) (get_or w 7 0) (pack (take n (halves ds))) ∷ [])
   unfolding sub_param write_title
   title_param_lem =
-      let most = sym (ap (digits_in built_in ds) there ∙ digits-most built_in ds (get_or w 4 0)) in
       let l : length (digits_in built_in ds (get_or w 4 0)) ≡ n = digits-length built_in ds (get_or w 4 0) ∙ sym there in
-      let ho : write_digits with_unknown (digits_in built_in ds (get_or w 4 0)) ≡ accepted (pack (take n (halves ds))) =
-      ap (write_digits with_unknown) most ∙ digits_as_read ds n (all_drop (λ (x : ℕ). x < 256) 8 w octets) few_digits in
-      rw (ho, l)
-
-  -- What it takes on the wire.
-  pub title_length_lem : (r : ℕ) → r ≡ padded_length (8 + (n + 1) / 2) → accepted r ≡ mapped run_length (sub_param with_unknown (title (title_at built_in w)))
-  unfolding run_length
-  title_length_lem r e = sym (ap (mapped run_length) title_param_lem ∙ ap accepted (omega (arith, halves-packed ds n (omega (arith, there)))))
+      rw (packed_lem, l)
 
   octets_count : length (pack (take n (halves ds))) ≡ (n + 1) / 2
   octets_count = halves-packed ds n (omega (arith, there))
+
+  -- How many octets the digits take.
+  pub digits_count : accepted ((n + 1) / 2) ≡ mapped length (write_digits with_unknown (digits_in built_in ds (get_or w 4 0)))
+  digits_count = sym (ap (mapped length) packed_lem ∙ ap accepted octets_count)
 
   -- the octets that are handed on, with the first eight apart
   given : take (8 + (n + 1) / 2) w

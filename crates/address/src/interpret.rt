@@ -2,7 +2,7 @@
 ghost use Rattle.std.specs.Prelude.{◌≡◌, ◌≤◌, length};
 ghost use Rattle.bcd.specs.Outcome.{pick, mapped, each, most};
 ghost use Rattle.bcd.specs.Answers.{numbered, outcome_of};
-ghost use Rattle.bcd.specs.Digits.{built_in};
+ghost use Rattle.bcd.specs.Digits.{built_in, write_digits};
 ghost use Rattle.parameter.specs.Parameter.{run_length};
 ghost use Rattle.address.specs.Address.{title_at, title, present, sub_param};
 ghost use Rattle.address.specs.Parts.{interpreted};
@@ -40,38 +40,40 @@ fn too_short(short: Place) -> Refusal
     }
 }
 
-// What a title, given by its value, takes on the wire. 9, if the digits are checked.
-fn measure_title(digits: Digits, value: &[u8]) -> Result<usize, Refusal>
+// How many octets the digits of a title, given by its value, are written as. 9, if they are checked.
+fn digits_length(digits: Digits, value: &[u8]) -> Result<usize, Refusal>
     requires in_bounds { 8 ≤ length value.now }
     requires value_len_bound { length value.now ≤ most }
     ensures { outcome_of result
-        ≡ mapped run_length (sub_param (digits_by digits) (title (title_at built_in value.now))) }
+        ≡ mapped length (write_digits (digits_by digits) (title_at built_in value.now).digits) }
 {
-    let octets = match digits {
-        Digits::Checked => bcd::rewrite::rewritten_digits_length(&value[8..], value[4])?,
-        Digits::AsRead => usize::from(value[4])
-            .min(2 * (value.len() - 8))
-            .div_ceil(2),
-    };
-    Ok((12 + octets).next_multiple_of(4))
+    match digits {
+        Digits::Checked => bcd::rewrite::rewritten_digits_length(&value[8..], value[4]),
+        Digits::AsRead => {
+            let there = usize::from(value[4]).min(2 * (value.len() - 8));
+            Ok(there.div_ceil(2))
+        }
+    }
 }
 
-// What the title takes on the wire, if there is one. 9, if the digits are checked.
+// What the title takes on the wire, if there is one. 9, if its digits are checked.
 fn title_length(digits: Digits, value: &[u8], kept: Option<Place>) -> Result<usize, Refusal>
     requires held_in { HeldIn value.now 8 kept }
     requires value_len_bound { length value.now ≤ most }
     ensures { outcome_of result
         ≡ mapped run_length (each (sub_param (digits_by digits)) (present title (kept_title built_in value.now kept))) }
 {
-    match kept {
-        None => Ok(0),
-        Some(place) => measure_title(digits, place.value(value)),
-    }
+    let Some(place) = kept else {
+        return Ok(0);
+    };
+    let octets = digits_length(digits, place.value(value))?;
+    Ok((12 + octets).next_multiple_of(4))
 }
 
 // What a point code or an SSN takes on the wire, if it is there.
 pub(crate) fn four_length(there: bool) -> usize
-    ensures { result ≡ pick there 8 0 }
+    ensures value { result ≡ pick there 8 0 }
+    ensures small { result ≤ 8 }
 {
     if there { 8 } else { 0 }
 }

@@ -1,0 +1,21 @@
+-- `address::interpret::digits_length` meets its contract.
+use mathlib.Core.Path.{◌≡◌, ap, ◌∙◌}
+use Prim.Native.Nat.{ℕ, ◌+◌, ◌/◌}
+use native.Mathlib.Omega.{arith}
+use lib.ListN.{length, get_or}
+use Rattle.bcd.specs.Outcome.{mapped}
+use Rattle.bcd.proofs.Outcomes.{octets-of}
+use Rattle.address.proofs.Planning.{read_part}
+use Rattle.address.proofs.Titling.{digits_count}
+use Rattle.address.proofs.interpret.digits_length.Goals as goal
+
+pub returns-in-Checked : goal.returns-in-Checked
+returns-in-Checked c =
+    let v = c.args.value.now in
+    rw (c.in-Checked.is) (c.rewritten_digits_length.ensures ∙ ap (mapped length) (read_part v (get_or v 4 0) c.requires.value_len_bound))
+
+pub returns-in-AsRead : goal.returns-in-AsRead
+returns-in-AsRead c =
+    let v = c.args.value.now in
+    let half : c.div_ceil.result ≡ (c.min-there.result + 1) / 2 = omega (arith, c.div_ceil.ensures) in
+    rw (c.in-AsRead.is, half) (digits_count v (octets-of v (λ i. (c.type_inv.value i).fits)) c.requires.in_bounds c.min-there.result (omega (arith, c.min-there.ensures, c.from.ensures)))

@@ -5,57 +5,58 @@ use mathlib.Core.List.{List}
 use native.Mathlib.Omega.{arith}
 use lib.ListN.{length}
 use borrow.Rule.Slice.PartMut.{mid_of, put_mid}
-use Rattle.bcd.specs.Outcome.{Outcome, accepted, mapped, Octets, deliver}
+use Rattle.bcd.specs.Outcome.{Outcome, accepted, refused, mapped, Octets, deliver}
 use Rattle.bcd.specs.Digits.{built_in}
-use Rattle.bcd.proofs.Outcomes.{mapped_inv, deliver_buffer, deliver_answer}
+use Rattle.bcd.proofs.Outcomes.{mapped_inv, deliver_buffer}
 use Rattle.bcd.proofs.Writing.{begin}
 use Rattle.bcd.proofs.Characters.{built_in_lawful}
-use Rattle.parameter.specs.Parameter.{Param, run_octets, run_length}
+use Rattle.parameter.specs.Parameter.{run_octets, run_length}
 use Rattle.parameter.proofs.RoundTrip.{run_length_lem}
 use Rattle.message.specs.declared.header.CommonHeader.{CommonHeader}
-use Rattle.message.specs.Message.{header_with, header_octets, read_header, write_header, message_octets}
-use Rattle.message.proofs.Listing.{framed, message-done}
+use Rattle.message.specs.Message.{header_with, header_octets, framed, read_header, write_header, message_octets}
+use Rattle.message.proofs.Listing.{message-done, rest_room}
 use Rattle.form.specs.Form.{settled}
 use Rattle.form.specs.Steps.Passes.{settled_run, Placeable}
 use Rattle.form.proofs.Passes.{settled_run_lem}
 use Rattle.form.proofs.Written.{lent-length}
 
--- The header of the form written in front of an output that the form fits.
-module _ (out d : List ℕ) (h : CommonHeader) {a : Outcome ℕ} (room : 8 ≤ length out) (e : record { answer = a; buffer = d } ≡ deliver (write_header h) out) where
-  pub head_answer : a ≡ accepted 8
-  unfolding write_header
-  head_answer = deliver_answer (header_octets h) out (omega arith) e
+-- The first pass told what the parameters take, and there is room for them and the header.
+module _ (xs : List ℕ) (run : ℕ) (k : accepted run ≡ mapped run_length (settled_run built_in xs)) (out : List ℕ) (fits : 8 + run ≤ length out) where
+  placeable : Placeable (settled_run built_in xs) run
+  placeable =
+      let (qs, q, l) = mapped_inv run_length (settled_run built_in xs) (sym k) in
+      record { params = qs; settles = q; fits = omega arith }
 
-  head_length : length d ≡ length out
-  unfolding write_header
-  head_length = (begin out (header_octets h) d (omega arith) (deliver_buffer (header_octets h) out (omega arith) e)).same
-
-  -- The parameters fit behind it, and are written there.
-  module _ (xs : List ℕ) (run : ℕ) (k : accepted run ≡ mapped run_length (settled_run built_in xs)) (fits : 8 + run ≤ length out) where
+  -- The header was written in front of the output.
+  module _ (d : List ℕ) (h : CommonHeader) {a : Outcome ℕ} (e : record { answer = a; buffer = d } ≡ deliver (write_header h) out) where
     pub behind_head : Placeable (settled_run built_in xs) (length (mid_of 8 (length d - 8) d))
+    unfolding write_header
     behind_head =
-        let (qs, q, l) = mapped_inv run_length (settled_run built_in xs) (sym k) in
-        let n = head_length in
+        let p = placeable in
+        let b = begin out (header_octets h) d (omega arith) (deliver_buffer (header_octets h) out (omega arith) e) in
         let lent = lent-length d 8 in
-        record { params = qs; settles = q; fits = omega arith }
+        record { params = p.params; settles = p.settles; fits = omega (arith, p.fits, b.same) }
 
-    module _ (last : List ℕ) {b : Outcome ℕ} (w : record { answer = b; buffer = last } ≡ deliver (mapped run_octets (settled_run built_in xs)) (mid_of 8 (length d - 8) d)) where
-      pub params_answer : (n : ℕ) × (b ≡ accepted n)
-      params_answer =
-          let p = behind_head in
+    module _ (last : List ℕ) where
+      pub params_room :
+          {n : ℕ} {vs : List ℕ}
+          → record { answer = refused n vs; buffer = last } ≡ deliver (mapped run_octets (settled_run built_in xs)) (mid_of 8 (length d - 8) d)
+          → ⊥
+      params_room w =
+          let p = placeable in
           let l = run_length_lem p.params in
-          (_, deliver_answer (run_octets p.params) (mid_of 8 (length d - 8) d) (omega (arith, p.fits))
-          (w ∙ ap (λ o. deliver (mapped run_octets o) (mid_of 8 (length d - 8) d)) p.settles))
+          rest_room (run_octets p.params) out d h (mapped run_octets (settled_run built_in xs)) (omega (arith, p.fits)) (ap (mapped run_octets) p.settles) e w
 
       pub whole_written :
-          (m : CommonHeader) (total : ℕ)
+          {b : Outcome ℕ} (m : CommonHeader) (total : ℕ)
           → Octets xs
           → read_header xs ≡ accepted m
           → total ≡ 8 + run
           → h ≡ header_with m.message_type total
+          → record { answer = b; buffer = last } ≡ deliver (mapped run_octets (settled_run built_in xs)) (mid_of 8 (length d - 8) d)
           → record { answer = accepted total; buffer = put_mid 8 (length d - 8) d last } ≡ deliver (settled built_in xs) out
       unfolding message_octets
-      whole_written m total o hm t new =
+      whole_written m total o hm t new w =
           let (qs, q, l) = mapped_inv run_length (settled_run built_in xs) (sym k) in
           let size : total ≡ 8 + length (run_octets qs) = t ∙ ap (λ (i : ℕ). 8 + i) (sym l ∙ sym (run_length_lem qs)) in
           let whole : settled built_in xs ≡ accepted (framed m.message_type (run_octets qs)) =

@@ -1,81 +1,92 @@
--- A message whose parameters were measured: its refusals, its room, and its octets behind the header.
-use Prim.Native.Nat.{ℕ, ◌+◌, ◌-◌, ◌≤◌, ◌<◌}
-use mathlib.Core.Path.{◌≡◌, sym, ap, ◌∙◌}
-use mathlib.Core.List.{List, [], ◌∷◌, ◌++◌, append_assoc}
+-- Messages of parts: the parameters that the parts are, in order.
+use Prim.Native.Nat.{ℕ}
+use mathlib.Core.Path.{◌≡◌, refl, sym, ap, ◌∙◌}
+use mathlib.Core.List.{List, [], ◌∷◌, ◌++◌, append_assoc, append-nil}
 use native.Mathlib.Omega.{arith}
-use lib.ListN.{length, length-append}
-use borrow.Author.Tests.{le-leb}
-use borrow.Rule.Slice.PartMut.{mid_of, put_mid}
-use Rattle.bcd.specs.Outcome.{Outcome, accepted, refused, after, mapped, most, deliver}
-use Rattle.bcd.proofs.Outcomes.{never, mapped_inv, deliver-passed_on, deliver_too_long, deliver_buffer}
-use Rattle.bcd.proofs.Writing.{Begun, begin, delivered}
-use Rattle.parameter.specs.Parameter.{writable}
+use denote.Bor.{Bor}
+use lib.ListN.{length}
+use Rattle.std.specs.Prelude.{Option, None, Some, option_map, option_copied}
+use Rattle.bcd.specs.Outcome.{Outcome, accepted, refused, after, mapped, each, deliver}
+use Rattle.parameter.specs.Parameter.{Param, most_value, encode_param, writable, param}
+use Rattle.parameter.specs.Table.{Table}
+use Rattle.parameter.proofs.Encoding.{encode_within}
+use Rattle.address.specs.declared.SuaAddress.{SuaAddress}
+use Rattle.address.specs.Given.{encode_address_as}
+use Rattle.address.proofs.Encoding.{given-known}
+use Rattle.pieces.specs.Parts.{number, octet, given, affected, given_written, run_written}
+use Rattle.pieces.specs.declared.Part.{Part}
+use Rattle.pieces.specs.declared.Part.TheVariants as P
 use Rattle.message.specs.declared.types.MessageType.{MessageType}
-use Rattle.message.specs.declared.header.CommonHeader.{CommonHeader}
-use Rattle.message.specs.Message.{header_with, header_octets, write_header}
-use Rattle.message.proofs.Listing.{framed, framed-length}
-use Rattle.pieces.proofs.Placing.{wrote}
+use Rattle.message.specs.Message.{framed}
+use Rattle.message.specs.Constructors.{written}
+use Rattle.message.specs.Steps.Parts.{made}
+use Rattle.message.proofs.Listing.{written-framed}
 
--- A message of so many octets: those of hs, whatever o is, behind the header, and then those of o.
-pub record Made (m : MessageType) (hs : List ℕ) (o whole : Outcome (List ℕ)) (run total : ℕ) : Type 0 where
-  pub octets : List ℕ
-  pub encoded : o ≡ accepted octets
-  pub all : whole ≡ accepted (framed m (hs ++ octets))
-  pub size : length octets ≡ run
-  pub sum : total ≡ 8 + length hs + run
+-- Parts that are parameters.
+abbrev pub Are : List (Option Part) → List Param → Type 0
+Are parts ps = run_written parts ≡ each encode_param ps
 
-module _ (m : MessageType) (hs : List ℕ) (o whole : Outcome (List ℕ)) (is : whole ≡ after o (λ os. writable (framed m (hs ++ os)))) where
-  pub made_refused : (n : ℕ) (vs out : List ℕ) → refused n vs ≡ mapped length o → record { answer = refused n vs; buffer = out } ≡ deliver whole out
-  made_refused n vs out e = deliver-passed_on whole n vs out (go o e ∙ sym (ap (mapped length) is))
-    where
-      go : (o : Outcome (List ℕ)) → refused n vs ≡ mapped length o → refused n vs ≡ mapped length (after o (λ os. writable (framed m (hs ++ os))))
-      go (accepted os) e = absurd (never e)
-      go (refused k ws) e = e
+abbrev pub Is : Option Part → List Param → Type 0
+Is part ps = given_written part ≡ each encode_param ps
 
-  pub made : (run total : ℕ) → accepted run ≡ mapped length o → total ≡ 8 + length hs + run → total ≤ most → Made m hs o whole run total
-  made run total e n h =
-      let (os, a, l) = mapped_inv length o (sym e) in
-      let w = framed m (hs ++ os) in
-      let within : writable w ≡ accepted w = rw (le-leb (length w) most (omega (arith, framed-length m (hs ++ os), length-append hs os))) in
-      record {
-        octets = os;
-        encoded = a;
-        all = is ∙ ap (λ (o : Outcome (List ℕ)). after o (λ os. writable (framed m (hs ++ os)))) a ∙ within;
-        size = l;
-        sum = n;
-      }
+made_written : (m : MessageType) (parts : List (Option Part)) (ps : List Param) → Are parts ps → made m parts ≡ written m ps
+made_written m parts ps e = ap (λ (o : Outcome (List ℕ)). after o (λ os. writable (framed m os))) e ∙ sym (written-framed m (accepted ps))
 
--- The header in front.
-pub headed :
-    (h : CommonHeader) (out : List ℕ) {d : List ℕ} {a : Outcome ℕ}
-    → 8 ≤ length out
-    → record { answer = a; buffer = d } ≡ deliver (write_header h) out
-    → Begun out (header_octets h) d
-unfolding write_header
-headed h out {d} room e = begin out (header_octets h) d room (deliver_buffer (header_octets h) out room e)
+-- One behind the other.
+each_joined :
+    (xs ys : List Param)
+    → each encode_param (xs ++ ys) ≡ after (each encode_param xs) (λ us. mapped (λ vs. us ++ vs) (each encode_param ys))
+each_joined [] ys = go (each encode_param ys)
+  where
+    go : (o : Outcome (List ℕ)) → o ≡ mapped (λ vs. [] ++ vs) o
+    go (accepted vs) = refl
+    go (refused n vs) = refl
+each_joined (x ∷ xs) ys = rw (each_joined xs ys) (go (encode_param x) (each encode_param xs) (each encode_param ys))
+  where
+    go :
+        (a b c : Outcome (List ℕ))
+        → after a (λ ys. mapped (λ zs. ys ++ zs) (after b (λ us. mapped (λ vs. us ++ vs) c)))
+        ≡ after (after a (λ ys. mapped (λ zs. ys ++ zs) b)) (λ us. mapped (λ vs. us ++ vs) c)
+    go (refused n vs) b c = refl
+    go (accepted s) (refused n vs) c = refl
+    go (accepted s) (accepted us) (refused n vs) = refl
+    go (accepted s) (accepted us) (accepted vs) = ap accepted (sym (append_assoc s us vs))
 
-module _ {m : MessageType} {hs : List ℕ} {o whole : Outcome (List ℕ)} {run total : ℕ} (k : Made m hs o whole run total) (out : List ℕ) where
-  -- too little room
-  pub made-short : length out < total → record { answer = refused 14 (total ∷ []); buffer = out } ≡ deliver whole out
-  made-short h =
-      let l : total ≡ length (framed m (hs ++ k.octets)) = omega (arith, k.sum, k.size, framed-length m (hs ++ k.octets), length-append hs k.octets) in
-      deliver_too_long whole total out (ap accepted l ∙ sym (ap (mapped length) k.all)) h
+alone : (o : Outcome (List ℕ)) → after o (λ us. mapped (λ vs. us ++ vs) (accepted [])) ≡ o
+alone (accepted us) = ap accepted (append-nil us)
+alone (refused n vs) = refl
 
-  module _ (h : CommonHeader) {d : List ℕ} (b : Begun out (header_octets h ++ hs) d) (at : ℕ) (place : length (header_octets h ++ hs) ≡ at) (fits : total ≤ length out) where
-    room : at + length k.octets ≤ length out
-    room = omega (arith, k.sum, k.size, length-append (header_octets h) hs)
+pub joined : (part : Option Part) (parts : List (Option Part)) (xs ys : List Param) → Is part xs → Are parts ys → Are (part ∷ parts) (xs ++ ys)
+joined part parts xs ys e f = rw (e, f) (sym (each_joined xs ys))
 
-    pub made-done :
-        {last : List ℕ} {a : Outcome ℕ}
-        → h ≡ header_with m total
-        → record { answer = a; buffer = last } ≡ deliver o (mid_of at (length d - at) d)
-        → record { answer = accepted total; buffer = put_mid at (length d - at) d last } ≡ deliver whole out
-    made-done {last} same rest =
-        let w = wrote at o k.octets b place k.encoded room rest in
-        let n : total ≡ 8 + length (hs ++ k.octets) = omega (arith, k.sum, k.size, length-append hs k.octets) in
-        let frame : (header_octets h ++ hs) ++ k.octets ≡ framed m (hs ++ k.octets) =
-        append_assoc (header_octets h) hs k.octets
-        ∙ ap (λ (x : CommonHeader). header_octets x ++ (hs ++ k.octets)) same
-        ∙ ap (λ (x : ℕ). header_octets (header_with m x) ++ (hs ++ k.octets)) n in
-        let sized : length ((header_octets h ++ hs) ++ k.octets) ≡ total = omega (arith, w.place, k.sum, k.size, length-append (header_octets h) hs) in
-        delivered total w.begun sized ∙ ap (λ (x : List ℕ). deliver (accepted x) out) frame ∙ ap (λ (x : Outcome (List ℕ)). deliver x out) (sym k.all)
+pub last : (part : Option Part) (xs : List Param) → Is part xs → Are (part ∷ []) xs
+last part xs e = alone (given_written part) ∙ e
+
+-- Each kind of part.
+pub one : (p : Param) → encode_param p ≡ each encode_param (p ∷ [])
+one p = sym (alone (encode_param p))
+
+pub number_is : (tag : ℕ) (n : Option ℕ) {part : Option Part} → part ≡ option_map (P.Number tag) n → Is part (given (number tag) n)
+number_is tag n e = ap given_written e ∙ go n
+  where
+    go : (n : Option ℕ) → Is (option_map (P.Number tag) n) (given (number tag) n)
+    go None = refl
+    go (Some n) = one (number tag n)
+
+pub octet_is : (tag : ℕ) (n : Option ℕ) {part : Option Part} → part ≡ option_map (P.Octet tag) n → Is part (given (octet tag) n)
+octet_is tag n e = ap given_written e ∙ go n
+  where
+    go : (n : Option ℕ) → Is (option_map (P.Octet tag) n) (given (octet tag) n)
+    go None = refl
+    go (Some n) = one (octet tag n)
+
+pub octets-are : (tag : ℕ) (o : Option (Bor (List ℕ))) {part : Option Part} → part ≡ option_map (P.Octets tag) o → Is part (given (param tag) (option_copied o))
+octets-are tag o e = ap given_written e ∙ go o
+  where
+    go : (o : Option (Bor (List ℕ))) → Is (option_map (P.Octets tag) o) (given (param tag) (option_copied o))
+    go None = refl
+    go (Some o) = one (param tag o.now)
+
+-- What is delivered of a message of parts.
+pub told : (m : MessageType) (parts : List (Option Part)) (ps : List Param) (out : List ℕ) → Are parts ps → deliver (made m parts) out ≡ deliver (written m ps) out
+told m parts ps out e = ap (λ (o : Outcome (List ℕ)). deliver o out) (made_written m parts ps e)

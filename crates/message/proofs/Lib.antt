@@ -1,8 +1,9 @@
 -- Laws and theorems that belong to no one function.
+pub mod Ignored
 pub mod Pairs
+pub mod Headers
 pub mod Framing
 pub mod Messages
-pub mod Headers
 pub mod Listing
 pub mod Standing
-pub mod Ignored
+pub mod Constructing

@@ -7,7 +7,7 @@ use Rattle.parameter.specs.Parameter.{Param, param}
 use Rattle.parameter.specs.Table.{Table}
 use Rattle.address.specs.declared.SuaAddress.{SuaAddress}
 use Rattle.address.specs.Given.{encode_address_as}
-use Rattle.pieces.specs.Parts.{number, given, affected}
+use Rattle.pieces.specs.Parts.{number, octet, given, affected}
 use Rattle.message.specs.declared.types.MessageType.{MessageType}
 use Rattle.message.specs.declared.types.MessageType.TheVariants as M
 use Rattle.message.specs.Message.{message, write_message}
@@ -15,10 +15,6 @@ use Rattle.message.specs.Message.{message, write_message}
 -- The octets of a type and a list of parameters.
 abbrev pub written : MessageType → List Param → Outcome (List ℕ)
 written m ps = write_message (message m ps)
-
--- A parameter of three reserved octets and one of value (RFC 3868, 3.9, 3.10).
-abbrev pub octet : (tag n : ℕ) → Param
-octet tag n = param tag (0 ∷ 0 ∷ 0 ∷ n ∷ [])
 
 -- CLDT (RFC 3868, 3.2.1): routing context, protocol class, source and destination address, sequence control, SS7 hop counter,
 -- data.

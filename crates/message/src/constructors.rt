@@ -49,6 +49,13 @@ fn number<'a>(tag: u16, n: Option<u32>) -> Option<Part<'a>>
     n.map(|n| Part::Number(tag, n))
 }
 
+// An octet as a part, if there is one.
+fn octet<'a>(tag: u16, n: Option<u8>) -> Option<Part<'a>>
+    ensures { result ≡ option_map (P.Octet tag) n }
+{
+    n.map(|n| Part::Octet(tag, n))
+}
+
 // Octets as a part, if there are any.
 fn octets<'a>(tag: u16, octets: Option<&'a [u8]>) -> Option<Part<'a>>
     ensures { result ≡ option_map (P.Octets tag) octets.entry }
@@ -151,7 +158,7 @@ impl SuaMessage {
     {
         let parts = [
             Some(Part::Number(tags::ROUTING_CONTEXT, routing_context)),
-            Some(Part::Number(tags::PROTOCOL_CLASS, protocol_class.into())),
+            Some(Part::Octet(tags::PROTOCOL_CLASS, protocol_class)),
             Some(Part::Address(tags::SOURCE_ADDRESS, source, source_others)),
             Some(Part::Address(
                 tags::DESTINATION_ADDRESS,
@@ -159,7 +166,7 @@ impl SuaMessage {
                 destination_others,
             )),
             Some(Part::Number(tags::SEQUENCE_CONTROL, sequence_control)),
-            number(tags::SS7_HOP_COUNTER, ss7_hop_count.map(u32::from)),
+            octet(tags::SS7_HOP_COUNTER, ss7_hop_count),
             Some(Part::Octets(tags::DATA, data)),
         ];
         write(MessageType::Cldt, &parts, out)
@@ -185,10 +192,10 @@ impl SuaMessage {
             (option_copied «data».entry))
             out.old }
     {
-        let cause = u32::from_be_bytes([0, 0, cause_type, cause_value]);
+        let cause = [0, 0, cause_type, cause_value];
         let parts = [
             Some(Part::Number(tags::ROUTING_CONTEXT, routing_context)),
-            Some(Part::Number(tags::SCCP_CAUSE, cause)),
+            Some(Part::Octets(tags::SCCP_CAUSE, &cause)),
             Some(Part::Address(tags::SOURCE_ADDRESS, source, source_others)),
             Some(Part::Address(
                 tags::DESTINATION_ADDRESS,

@@ -16,13 +16,16 @@ use Rattle.parameter.proofs.RoundTrip.{octets-length}
 use Rattle.parameter.proofs.Encoding.{wire_encode, wire_within, encode_within, encode_beyond, framed-length, frame_known}
 use Rattle.parameter.proofs.InPlace.{framed-there}
 use Rattle.pieces.specs.PointCodes.{codes_octets, most_codes, pack_codes}
-use Rattle.pieces.specs.Parts.{number, affected, Placeable}
+use Rattle.pieces.specs.Parts.{number, octet, affected, Placeable}
 use Rattle.pieces.proofs.PointCodes.{codes-length, pack_few, pack_many}
 use Rattle.pieces.proofs.Running.{lent_length}
 
 -- What a part takes.
 pub number_taken : (tag n : ℕ) → mapped length (encode_param (number tag n)) ≡ accepted 8
 number_taken tag n = wire_encode (number tag n) ∙ wire_within tag 4 (omega arith)
+
+pub octet_taken : (tag n : ℕ) → mapped length (encode_param (octet tag n)) ≡ accepted 8
+octet_taken tag n = wire_encode (octet tag n) ∙ wire_within tag 4 (omega arith)
 
 pub codes_taken : (codes : List ℕ) → mapped length (encode_param (affected codes)) ≡ wire_length 0x0012 (4 * length codes)
 codes_taken codes = wire_encode (affected codes) ∙ ap (wire_length 0x0012) (codes-length codes)

@@ -13,6 +13,10 @@ use Rattle.pieces.specs.declared.Part.TheVariants as P
 abbrev pub number : (tag n : ℕ) → Param
 number tag n = param tag (four n)
 
+-- A parameter of three reserved octets and one of value (RFC 3868, 3.9, 3.10).
+abbrev pub octet : (tag n : ℕ) → Param
+octet tag n = param tag (0 ∷ 0 ∷ 0 ∷ n ∷ [])
+
 -- The parameter of a value, if there is one.
 abbrev pub given : {A : Type 0} → (A → Param) → Option A → List Param
 given made None = []
@@ -29,6 +33,7 @@ address_param tag a values t = after (encode_address_as tag a values t) (λ w. e
 -- A part, written as one parameter.
 abbrev pub part_written : Part → Outcome (List ℕ)
 part_written (P.Number tag n) = encode_param (number tag n)
+part_written (P.Octet tag n) = encode_param (octet tag n)
 part_written (P.Octets tag octets) = encode_param (param tag octets.now)
 part_written (P.Codes codes) = encode_param (affected codes.now)
 part_written (P.Address tag a others) = address_param tag a.now others.values.now others.rows.now

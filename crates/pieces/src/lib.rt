@@ -17,10 +17,12 @@ use parameter::tags::AFFECTED_POINT_CODE;
 use parameter::{encode, frame, wire_length};
 use point_codes::pack_affected_point_codes;
 
-// A part of a message, by its tag: a number; octets; point codes; an address, with the records of its other sub-parameters.
+// A part of a message, by its tag: a number; an octet, behind three that are reserved; octets; point codes; an address, with the
+// records of its other sub-parameters.
 #[derive(Clone, Copy)]
 pub enum Part<'a> {
     Number(u16, u32),
+    Octet(u16, u8),
     Octets(u16, &'a [u8]),
     Codes(&'a [u32]),
     Address(u16, &'a SuaAddress, Records<'a>),
@@ -40,6 +42,7 @@ impl<'a> Part<'a> {
     {
         match self {
             Part::Number(_, _) => Ok(8),
+            Part::Octet(_, _) => Ok(8),
             Part::Octets(tag, octets) => wire_length(tag, octets.len()),
             Part::Codes(codes) => wire_length(AFFECTED_POINT_CODE, 4 * codes.len()),
             Part::Address(tag, address, others) => {
@@ -56,6 +59,7 @@ impl<'a> Part<'a> {
     {
         match self {
             Part::Number(tag, n) => put_number(tag, n, out),
+            Part::Octet(tag, n) => encode(tag, &[0, 0, 0, n], out),
             Part::Octets(tag, octets) => encode(tag, octets, out),
             Part::Codes(codes) => {
                 let length = pack_affected_point_codes(codes, &mut out[4..])?;

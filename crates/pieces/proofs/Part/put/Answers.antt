@@ -28,8 +28,11 @@ coded codes room h = subst (λ (o : Outcome (List ℕ)). Placeable o room) (sym 
 pub returns-in-Number : goal.returns-in-Number
 returns-in-Number c = rw (c.in-Number.is) c.put_number.ensures
 
+pub returns-in-Octet : goal.returns-in-Octet
+returns-in-Octet c = rw (c.in-Octet.is) c.encode.ensures
+
 pub returns-in-Octets : goal.returns-in-Octets
-returns-in-Octets c = rw (c.in-Octets.is) c.encode.ensures
+returns-in-Octets c = rw (c.in-Octets.is) c.encode-in-Octets.ensures
 
 pub slice_bounds-pack_affected_point_codes-count : goal.slice_bounds-pack_affected_point_codes-count
 slice_bounds-pack_affected_point_codes-count c =

@@ -1,28 +1,25 @@
 -- Stepping a reader of a message to its end gives the message's parameters, or its refusal.
-use Prim.Native.Nat.{ℕ, zero, suc, ◌+◌, ◌*◌, ◌≤◌}
+use Prim.Native.Nat.{ℕ, zero, suc, ◌+◌, ◌*◌, ◌≤◌, ◌<◌}
 use mathlib.Core.Path.{◌≡◌, refl, sym, ap, ◌∙◌}
 use mathlib.Core.List.{List, [], ◌∷◌, map}
+use Rattle.std.specs.Prelude.{Option, None, Some}
 use native.Mathlib.Omega.{arith}
 use lib.Dec.{leb}
 use lib.ListN.{length, drop}
 use denote.Ref.{Bor}
 use Rattle.bcd.specs.Outcome.{Outcome, accepted, refused, after, mapped, most, bounded}
-use Rattle.bcd.proofs.Outcomes.{demand_inv, bounded-within}
+use Rattle.bcd.proofs.Outcomes.{never, demand_inv, bounded-within}
 use Rattle.parameter.specs.Parameter.{Param}
 use Rattle.parameter.specs.declared.Place.{Place}
-use Rattle.parameter.specs.Walk.{Walked, ended, found, step_at, onward, steps, places, valued, parameters}
+use Rattle.parameter.specs.Walk.{Walked, ended, found, step_at, onward, places, valued, parameters}
 use Rattle.parameter.proofs.Walking.{Found, step_inv}
-use Rattle.parameter.proofs.Structure.{places-steps, places-parameters}
+use Rattle.parameter.proofs.Reaching.{places_turn, walk_some}
+use Rattle.parameter.proofs.Structure.{places-parameters}
 use Rattle.message.specs.declared.header.CommonHeader.{CommonHeader}
 use Rattle.message.specs.Message.{message, read_header, read_message}
 use Rattle.message.proofs.Listing.{header_within}
 use Rattle.records.specs.declared.reader.Reader.{Reader}
-use Rattle.records.specs.Reader.{start_of, opened, next_of, moved_to, moved_on, Steps, ends, stops, finds, told}
-
--- the places from a position on: what a step finds, and the places from there on
-places_turn : (xs : List ℕ) (at : ℕ) → places xs at ≡ after (step_at xs at) (onward (places xs))
-unfolding places steps
-places_turn xs at = places-steps (suc (length xs)) xs at (omega arith)
+use Rattle.records.specs.Reader.{start_of, opened, next_of, given, ahead, moved_to, moved_on, Steps, ends, stops, finds, told}
 
 pushed :
     (xs : List ℕ) (p : Place) (o : Outcome (List Place))
@@ -35,7 +32,7 @@ module _ (xs : List ℕ) (within : length xs ≤ most) (at : ℕ) where
   turned : (w : Outcome Walked) → bounded xs (step_at xs at) ≡ w → mapped (map (valued xs)) (after w (onward (places xs))) ≡ mapped (map (valued xs)) (places xs at)
   turned w e =
       ap (λ o. mapped (map (valued xs)) (after o (onward (places xs)))) (sym e ∙ bounded-within xs (step_at xs at) within)
-      ∙ sym (ap (mapped (map (valued xs))) (places_turn xs at))
+      ∙ sym (ap (mapped (map (valued xs))) (places_turn xs at _ refl))
 
 -- What stepping gives are the parameters at the places from the reader's position on.
 pub steps-places : (r : Reader) (o : Outcome (List Param)) → length r.bytes.now ≤ most → Steps r o → o ≡ mapped (map (valued r.bytes.now)) (places r.bytes.now r.at)
@@ -70,6 +67,25 @@ one_step r (refused n vs) e on = (refused n vs, stops r n vs e)
 
 found_at : (r : Reader) (p : Place) (next : ℕ) → next_of r ≡ accepted (found p next) → Found r.bytes.now r.at p next
 found_at r p next e = step_inv r.bytes.now r.at (demand_inv (leb (length r.bytes.now) most) _ _ _ e).1
+
+-- what the reader that was moved on has ahead of it, and that octets are there where a step is refused
+pub moved_less : (r : Reader) (p : Place) (m : Reader) → accepted (Some (p, m)) ≡ mapped (given r) (next_of r) → ahead m < ahead r
+moved_less r p m e = go (next_of r) refl e
+  where
+    go : (w : Outcome Walked) → next_of r ≡ w → accepted (Some (p, m)) ≡ mapped (given r) w → ahead m < ahead r
+    go (accepted (found q next)) k j =
+        let f = found_at r q next k in
+        let pair : ◌≡◌ {A = Place × Reader} (p, m) (q, record { bytes = r.bytes; at = next }) = cc in
+        rw (ap (λ x. x.1) pair) (omega (arith, f.forward, f.within, f.least))
+    go (accepted ended) k j = let z : ◌≡◌ {A = ℕ} 0 1 = cc in absurd (omega arith)
+    go (refused n vs) k j = absurd (never (sym j))
+
+pub refused_some : (r : Reader) (n : ℕ) (vs : List ℕ) → refused n vs ≡ mapped (given r) (next_of r) → 0 < length r.bytes.now
+refused_some r n vs e = go (next_of r) refl e
+  where
+    go : (w : Outcome Walked) → next_of r ≡ w → refused n vs ≡ mapped (given r) w → 0 < length r.bytes.now
+    go (refused m ws) k j = walk_some r.bytes.now r.at m ws (sym k)
+    go (accepted w) k j = absurd (never j)
 
 -- a reader with at most four times so many octets ahead
 ending : (n : ℕ) (r : Reader) → length r.bytes.now ≤ r.at + 4 * n → Ending r

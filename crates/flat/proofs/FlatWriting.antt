@@ -5,19 +5,20 @@ use mathlib.Core.List.{List, [], ◌∷◌, ◌++◌, map, map-append, append-ni
 use native.Mathlib.Omega.{arith}
 use lib.Dec.{leb}
 use lib.ListN.{length, drop, length-append, length-take, length-drop}
+use lib.Seq.{drop-length}
 use borrow.Author.Tests.{leb-true}
 use borrow.Rule.Slice.PartMut.{mid_of, put_mid}
-use Rattle.bcd.specs.Outcome.{Outcome, accepted, refused, after, mapped, each, deliver}
+use Rattle.bcd.specs.Outcome.{Outcome, accepted, refused, after, mapped, each, delivered, deliver}
 use Rattle.bcd.proofs.Outcomes.{accepted_inj, never, mapped_inv, demand_inv, each_inv, each_split, each_append, deliver_buffer, deliver_answer}
-use Rattle.bcd.proofs.Writing.{Begun, untouched, extend, delivered}
+use Rattle.bcd.proofs.Writing.{Begun, untouched, extend}
 use Rattle.parameter.specs.declared.Place.{Place}
 use Rattle.parameter.specs.Parameter.{Param, padded_length, param_octets, most_value, encode_param}
-use Rattle.parameter.specs.Walk.{found, valued}
+use Rattle.parameter.specs.Walk.{ended, found, valued}
 use Rattle.parameter.proofs.RoundTrip.{octets-length}
 use Rattle.parameter.proofs.Encoding.{encode_within}
 use Rattle.flat.specs.Flat.{flat_step, flat_steps, flat_list}
 use Rattle.form.proofs.Passes.{valued-length}
-use Rattle.flat.proofs.FlatList.{flat_inside, Walking, walking_start, walking_next, walking_refused, turn, flat_walked, flat_refused}
+use Rattle.flat.proofs.FlatList.{flat_inside, Walking, walking_start, walking_found, walking_next, walking_end, walking_refused, flat_walked, flat_refused}
 
 -- the parameters of the list are known, and take `total` octets
 pub record Known (xs : List ℕ) (total : ℕ) : Type 0 where
@@ -36,14 +37,14 @@ known xs total e = go (flat_steps (length xs) xs 0) refl
         let (os, q, l) = mapped_inv length (each encode_param (map (valued xs) ps)) (sym (e ∙ ap (λ o. mapped length (after o (each encode_param))) (flat_walked xs ps w))) in
         record { walked = ps; places = w; octets = os; encodes = q; size = l }
 
-pub record Written (xs out d : List ℕ) (n from at : ℕ) : Type 0 where
-  pub walking : Walking xs n from
+pub record Written (xs out d : List ℕ) (from at : ℕ) : Type 0 where
+  pub walking : Walking xs from
   pub octets : List ℕ
   pub so_far : each encode_param (map (valued xs) walking.done) ≡ accepted octets
   pub begun : Begun out octets d
   pub place : length octets ≡ at
 
-pub written_start : (xs out : List ℕ) → Written xs out out 0 0 0
+pub written_start : (xs out : List ℕ) → Written xs out out 0 0
 unfolding walking_start
 written_start xs out = record { walking = walking_start xs; octets = []; so_far = refl; begun = untouched out; place = refl }
 
@@ -56,99 +57,93 @@ encoded_small p os e =
 
 -- what a turn of the loop needs of the record found
 pub record Turn (xs : List ℕ) (q : Place) (at total : ℕ) : Type 0 where
-  pub inside : q.start + q.length ≤ length xs
+  pub value : length (valued xs q).value ≡ q.length
   pub small : q.length ≤ most_value
   pub room : at + padded_length q.length ≤ total
 
-module _ {xs out d : List ℕ} {n from at total : ℕ} (k : Known xs total) (p : Written xs out d n from at) (h : n < length xs) where
-  -- what is left of the places behind the one that a step finds
-  after-found : (q : Place) (next : ℕ) → flat_step xs from ≡ accepted (found q next) → (rest : List Place) × (k.walked ≡ p.walking.done ++ q ∷ rest)
-  after-found q next e = go (flat_steps (length xs - (n + 1)) xs next) refl
-    where
-      here : accepted k.walked ≡ mapped (λ qs. p.walking.done ++ qs) (mapped (λ ps. q ∷ ps) (flat_steps (length xs - (n + 1)) xs next))
-      here = sym k.places ∙ p.walking.left ∙ ap (mapped (λ qs. p.walking.done ++ qs)) (turn xs n from _ h e)
+module _ {xs out d : List ℕ} {from at total : ℕ} (k : Known xs total) (p : Written xs out d from at) where
+  pub written_never : (m : ℕ) (vs : List ℕ) → refused m vs ≡ flat_step xs from → ⊥
+  written_never m vs e = never (sym (walking_refused p.walking m vs e) ∙ k.places)
 
-      go : (o : Outcome (List Place)) → flat_steps (length xs - (n + 1)) xs next ≡ o → (rest : List Place) × (k.walked ≡ p.walking.done ++ q ∷ rest)
-      go (accepted rest) w = (rest, accepted_inj (here ∙ ap (λ o. mapped (λ qs. p.walking.done ++ qs) (mapped (λ ps. q ∷ ps) o)) w))
-      go (refused m vs) w = absurd (never (sym (here ∙ ap (λ o. mapped (λ qs. p.walking.done ++ qs) (mapped (λ ps. q ∷ ps) o)) w)))
+  -- all parameters are written
+  pub written_all : accepted ended ≡ flat_step xs from → total ≡ length out → accepted d ≡ after (flat_list xs) (each encode_param)
+  written_all e l =
+      let done = walking_end p.walking e in
+      let same : p.walking.done ≡ k.walked = accepted_inj (sym done ∙ k.places) in
+      let os : p.octets ≡ k.octets = accepted_inj (sym p.so_far ∙ ap (λ ps. each encode_param (map (valued xs) ps)) same ∙ k.encodes) in
+      let size : length p.octets ≡ length out = ap length os ∙ k.size ∙ l in
+      let whole : d ≡ p.octets = p.begun.holds ∙ rw (size, drop-length) (append-nil p.octets) in
+      ap accepted whole ∙ sym p.so_far ∙ sym (ap (λ o. after o (each encode_param)) (flat_walked xs p.walking.done done))
 
-  pub written_turn : (q : Place) (next : ℕ) → flat_step xs from ≡ accepted (found q next) → Turn xs q at total
-  written_turn q next e =
-      let (rest, w) = after-found q next e in
-      let done = map (valued xs) p.walking.done in
-      let all : each encode_param (done ++ (valued xs q ∷ map (valued xs) rest)) ≡ accepted k.octets =
-      sym (ap (each encode_param) (ap (map (valued xs)) w ∙ map-append (valued xs) p.walking.done (q ∷ rest))) ∙ k.encodes in
-      let (us, vs, hu, hv, j) = each_split encode_param done (valued xs q ∷ map (valued xs) rest) k.octets all in
-      let (qs, ts, hq, ht, i) = each_inv encode_param (valued xs q) (map (valued xs) rest) vs hv in
-      let (small, same) = encoded_small (valued xs q) qs hq in
-      let inside = flat_inside xs from e in
-      let l = valued-length xs q inside in
-      let a : length us ≡ at = ap length (accepted_inj (sym hu ∙ p.so_far)) ∙ p.place in
-      let b : length qs ≡ padded_length q.length = ap length (sym same) ∙ octets-length (valued xs q) ∙ ap padded_length l in
-      let c = length-append us vs in
-      let f = length-append qs ts in
-      let g = ap length i in
-      let z = ap length j in
-      record { inside = inside; small = omega arith; room = omega (arith, k.size) }
+  module _ (q : Place) (next : ℕ) (e : accepted (found q next) ≡ flat_step xs from) where
+    -- what is left of the places behind the one that a step finds
+    after-found : (rest : List Place) × (k.walked ≡ p.walking.done ++ q ∷ rest)
+    after-found = go (flat_steps (length xs) xs next) refl
+      where
+        here : accepted k.walked ≡ mapped (λ qs. p.walking.done ++ qs) (mapped (λ ps. q ∷ ps) (flat_steps (length xs) xs next))
+        here = sym k.places ∙ walking_found p.walking q next e
 
-  pub written-size :
-      (q : Place) (next : ℕ) {last : List ℕ} {r : ℕ}
-      → flat_step xs from ≡ accepted (found q next)
-      → total ≤ length out
-      → record { answer = accepted r; buffer = last } ≡ deliver (encode_param (valued xs q)) (mid_of at (length d - at) d)
-      → r ≡ padded_length q.length
-  written-size q next e fits w =
-      let t = written_turn q next e in
-      let v = valued xs q in
-      let lv = valued-length xs q t.inside in
-      let small : length v.value ≤ most_value = omega (arith, t.small) in
-      let lent : length (mid_of at (length d - at) d) ≡ length d - at = rw (length-take (length d - at) (drop at d), length-drop at d) (omega arith) in
-      let w' = w ∙ ap (λ o. deliver o (mid_of at (length d - at) d)) (encode_within v small) in
-      let l = octets-length v in
-      let room : length (param_octets v) ≤ length (mid_of at (length d - at) d) = omega (arith, t.room, p.begun.same) in
-      accepted_inj (deliver_answer (param_octets v) (mid_of at (length d - at) d) room w') ∙ l ∙ ap padded_length lv
+        go : (o : Outcome (List Place)) → flat_steps (length xs) xs next ≡ o → (rest : List Place) × (k.walked ≡ p.walking.done ++ q ∷ rest)
+        go (accepted rest) w = (rest, accepted_inj (here ∙ ap (λ o. mapped (λ qs. p.walking.done ++ qs) (mapped (λ ps. q ∷ ps) o)) w))
+        go (refused m vs) w = absurd (never (sym (here ∙ ap (λ o. mapped (λ qs. p.walking.done ++ qs) (mapped (λ ps. q ∷ ps) o)) w)))
 
-  pub written_more :
-      (q : Place) (next : ℕ) (last : List ℕ) (r : ℕ)
-      → flat_step xs from ≡ accepted (found q next)
-      → total ≤ length out
-      → record { answer = accepted r; buffer = last } ≡ deliver (encode_param (valued xs q)) (mid_of at (length d - at) d)
-      → Written xs out (put_mid at (length d - at) d last) (n + 1) next (at + r)
-  written_more q next last r e fits w =
-      let t = written_turn q next e in
-      let v = valued xs q in
-      let l = octets-length v in
-      let lv = valued-length xs q t.inside in
-      let small : length v.value ≤ most_value = omega (arith, t.small) in
-      let lent : length (mid_of at (length d - at) d) ≡ length d - at = rw (length-take (length d - at) (drop at d), length-drop at d) (omega arith) in
-      let w' = w ∙ ap (λ o. deliver o (mid_of at (length d - at) d)) (encode_within v small) in
-      let room : at + length (param_octets v) ≤ length out = omega (arith, t.room) in
-      let size = written-size q next e fits w in
-      record {
-        walking = walking_next p.walking h q next e;
-        octets = p.octets ++ param_octets v;
-        so_far =
-            ap (each encode_param) (map-append (valued xs) p.walking.done (q ∷ []))
-            ∙ each_append encode_param (map (valued xs) p.walking.done) (v ∷ []) p.octets (param_octets v) p.so_far (one v (encode_within v small));
-        begun =
-            extend (param_octets v) last at (length d - at) p.begun p.place (omega (arith, p.begun.same)) (omega (arith, p.begun.same))
-            (deliver_buffer (param_octets v) (mid_of at (length d - at) d) (omega (arith, p.begun.same)) w');
-        place = length-append p.octets (param_octets v) ∙ omega (arith, p.place);
-      }
-    where
-      one : (v : Param) → encode_param v ≡ accepted (param_octets v) → each encode_param (v ∷ []) ≡ accepted (param_octets v)
-      one v e = rw (e, append-nil)
+    pub written_turn : Turn xs q at total
+    written_turn =
+        let (rest, w) = after-found in
+        let done = map (valued xs) p.walking.done in
+        let all : each encode_param (done ++ (valued xs q ∷ map (valued xs) rest)) ≡ accepted k.octets =
+        sym (ap (each encode_param) (ap (map (valued xs)) w ∙ map-append (valued xs) p.walking.done (q ∷ rest))) ∙ k.encodes in
+        let (us, vs, hu, hv, j) = each_split encode_param done (valued xs q ∷ map (valued xs) rest) k.octets all in
+        let (qs, ts, hq, ht, i) = each_inv encode_param (valued xs q) (map (valued xs) rest) vs hv in
+        let (small, same) = encoded_small (valued xs q) qs hq in
+        let inside = flat_inside xs from e in
+        let l = valued-length xs q (omega (arith, inside.ends, inside.within)) in
+        let a : length us ≡ at = ap length (accepted_inj (sym hu ∙ p.so_far)) ∙ p.place in
+        let b : length qs ≡ padded_length q.length = ap length (sym same) ∙ octets-length (valued xs q) ∙ ap padded_length l in
+        let c = length-append us vs in
+        let f = length-append qs ts in
+        let g = ap length i in
+        let z = ap length j in
+        record { value = l; small = omega arith; room = omega (arith, k.size) }
 
-  pub written_never : (m : ℕ) (vs : List ℕ) → flat_step xs from ≡ refused m vs → ⊥
-  written_never m vs e = never (sym (walking_refused p.walking h m vs e) ∙ k.places)
+    -- the parameter is written into the rest of the output
+    module _ (fits : total ≤ length out) {o : Outcome ℕ} {last : List ℕ} (w : delivered o last ≡ deliver (encode_param (valued xs q)) (mid_of at (length d - at) d)) where
+      lent : length (mid_of at (length d - at) d) ≡ length d - at
+      lent = rw (length-take (length d - at) (drop at d), length-drop at d) (omega arith)
 
--- all parameters are written
-pub written_all :
-    {xs out d : List ℕ} {n from at total : ℕ} (k : Known xs total) (p : Written xs out d n from at)
-    → flat_steps (length xs) xs 0 ≡ accepted p.walking.done
-    → record { answer = accepted total; buffer = d } ≡ deliver (after (flat_list xs) (each encode_param)) out
-written_all {xs} {out} {d} {n} {from} {at} {total} k p e =
-    let same : p.walking.done ≡ k.walked = accepted_inj (sym e ∙ k.places) in
-    let os : p.octets ≡ k.octets = accepted_inj (sym p.so_far ∙ ap (λ ps. each encode_param (map (valued xs) ps)) same ∙ k.encodes) in
-    delivered total p.begun (ap length os ∙ k.size)
-    ∙ ap (λ o. deliver o out) (sym p.so_far ∙ sym (ap (λ o. after o (each encode_param)) (flat_walked xs p.walking.done e)))
+      wire : delivered o last ≡ deliver (accepted (param_octets (valued xs q))) (mid_of at (length d - at) d)
+      wire = let t = written_turn in
+          w ∙ ap (λ o. deliver o (mid_of at (length d - at) d)) (encode_within (valued xs q) (omega (arith, t.value, t.small)))
+
+      room : length (param_octets (valued xs q)) ≤ length (mid_of at (length d - at) d)
+      room = let t = written_turn in omega (arith, lent, octets-length (valued xs q), ap padded_length t.value, t.room, p.begun.same)
+
+      pub written-size : o ≡ accepted (padded_length q.length)
+      written-size = let t = written_turn in
+          deliver_answer (param_octets (valued xs q)) (mid_of at (length d - at) d) room wire ∙ ap accepted (octets-length (valued xs q) ∙ ap padded_length t.value)
+
+    pub written_more :
+        (fits : total ≤ length out) {r : ℕ} {last : List ℕ}
+        → delivered (accepted r) last ≡ deliver (encode_param (valued xs q)) (mid_of at (length d - at) d)
+        → Written xs out (put_mid at (length d - at) d last) next (at + r)
+    written_more fits {r} {last} w =
+        let t = written_turn in
+        let v = valued xs q in
+        let l = octets-length v in
+        let lv = ap padded_length t.value in
+        let small : length v.value ≤ most_value = omega (arith, t.value, t.small) in
+        let size = accepted_inj (written-size fits w) in
+        record {
+          walking = walking_next p.walking q next e;
+          octets = p.octets ++ param_octets v;
+          so_far =
+              ap (each encode_param) (map-append (valued xs) p.walking.done (q ∷ []))
+              ∙ each_append encode_param (map (valued xs) p.walking.done) (v ∷ []) p.octets (param_octets v) p.so_far (one v (encode_within v small));
+          begun =
+              extend (param_octets v) last at (length d - at) p.begun p.place (omega (arith, p.begun.same)) (omega (arith, p.begun.same, t.room, l, lv))
+              (deliver_buffer (param_octets v) (mid_of at (length d - at) d) (room fits w) (wire fits w));
+          place = length-append p.octets (param_octets v) ∙ omega (arith, p.place, l, lv, size);
+        }
+      where
+        one : (v : Param) → encode_param v ≡ accepted (param_octets v) → each encode_param (v ∷ []) ≡ accepted (param_octets v)
+        one v e = rw (e, append-nil)

@@ -10,12 +10,12 @@ use Rattle.bcd.specs.Outcome.{Outcome, accepted, refused, after, mapped, each, f
 use Rattle.bcd.proofs.Outcomes.{le_or_lt}
 use Rattle.parameter.specs.declared.Place.{Place}
 use Rattle.parameter.specs.Parameter.{Param, padded_length, param_octets, most_value, encode_param, wire_length}
-use Rattle.parameter.specs.Walk.{found, valued}
+use Rattle.parameter.specs.Walk.{ended, found, valued}
 use Rattle.parameter.proofs.Encoding.{encode_within, encode_beyond}
 use Rattle.parameter.proofs.RoundTrip.{octets-length}
-use Rattle.flat.specs.Flat.{flat_step, flat_steps, flat_list}
+use Rattle.flat.specs.Flat.{flat_step, flat_list}
 use Rattle.form.proofs.Passes.{each_last, valued-length}
-use Rattle.flat.proofs.FlatList.{flat_inside, Walking, walking_start, walking_next, walking_refused, flat_walked, flat_refused}
+use Rattle.flat.proofs.FlatList.{flat_inside, Walking, walking_start, walking_next, walking_end, walking_refused, flat_walked, flat_refused}
 
 -- how many octets, or the largest number of 64 bits
 abbrev pub size : List ℕ → ℕ
@@ -46,31 +46,32 @@ sum_more ps p (accepted os) e = ⊎_elim within beyond (le_or_lt (length p.value
     beyond : most_value < length p.value → mapped (λ m. fit64 (size os + m)) (wire_length p.tag (length p.value)) ≡ mapped size (each encode_param (ps ++ (p ∷ [])))
     beyond h = rw (each_last encode_param ps p, e, encode_beyond p h, wire_beyond p.tag (length p.value) h)
 
-pub record Summed (xs : List ℕ) (n at : ℕ) (sum : Outcome ℕ) : Type 0 where
-  pub walked : Walking xs n at
+pub record Summed (xs : List ℕ) (at : ℕ) (sum : Outcome ℕ) : Type 0 where
+  pub walked : Walking xs at
   pub so_far : sum ≡ mapped size (each encode_param (map (valued xs) walked.done))
 
-pub summed_start : (xs : List ℕ) → Summed xs 0 0 (accepted 0)
+pub summed_start : (xs : List ℕ) → Summed xs 0 (accepted 0)
 unfolding walking_start
 summed_start xs = record { walked = walking_start xs; so_far = refl }
 
 pub summed_all :
-    {xs : List ℕ} {n at : ℕ} {sum : Outcome ℕ} (s : Summed xs n at sum)
-    → flat_steps (length xs) xs 0 ≡ accepted s.walked.done
+    {xs : List ℕ} {at : ℕ} {sum : Outcome ℕ} (s : Summed xs at sum)
+    → accepted ended ≡ flat_step xs at
     → sum ≡ mapped size (after (flat_list xs) (each encode_param))
-summed_all {xs} s e = s.so_far ∙ sym (ap (λ o. mapped size (after o (each encode_param))) (flat_walked xs s.walked.done e))
+summed_all {xs} s e = s.so_far ∙ sym (ap (λ o. mapped size (after o (each encode_param))) (flat_walked xs s.walked.done (walking_end s.walked e)))
 
-module _ {xs : List ℕ} {n at : ℕ} {sum : Outcome ℕ} (s : Summed xs n at sum) (h : n < length xs) where
+module _ {xs : List ℕ} {at : ℕ} {sum : Outcome ℕ} (s : Summed xs at sum) where
   pub summed_more :
       (p : Place) (next : ℕ) (more : Outcome ℕ)
-      → flat_step xs at ≡ accepted (found p next)
+      → accepted (found p next) ≡ flat_step xs at
       → more ≡ after sum (λ n. mapped (λ m. fit64 (n + m)) (wire_length p.tag p.length))
-      → Summed xs (n + 1) next more
+      → Summed xs next more
   summed_more p next more e k =
-      let l = valued-length xs p (flat_inside xs at e) in
+      let i = flat_inside xs at e in
+      let l = valued-length xs p (omega (arith, i.ends, i.within)) in
       let ps = map (valued xs) s.walked.done in
       record {
-        walked = walking_next s.walked h p next e;
+        walked = walking_next s.walked p next e;
         so_far =
             k
             ∙ sym (ap (λ (i : ℕ). after sum (λ n. mapped (λ m. fit64 (n + m)) (wire_length p.tag i))) l)
@@ -79,5 +80,5 @@ module _ {xs : List ℕ} {n at : ℕ} {sum : Outcome ℕ} (s : Summed xs n at su
             ∙ sym (ap (λ qs. mapped size (each encode_param qs)) (map-append (valued xs) s.walked.done (p ∷ [])));
       }
 
-  pub summed_refused : (m : ℕ) (vs : List ℕ) → flat_step xs at ≡ refused m vs → refused m vs ≡ mapped size (after (flat_list xs) (each encode_param))
-  summed_refused m vs e = sym (ap (λ o. mapped size (after o (each encode_param))) (flat_refused xs m vs (walking_refused s.walked h m vs e)))
+  pub summed_refused : (m : ℕ) (vs : List ℕ) → refused m vs ≡ flat_step xs at → refused m vs ≡ mapped size (after (flat_list xs) (each encode_param))
+  summed_refused m vs e = sym (ap (λ o. mapped size (after o (each encode_param))) (flat_refused xs m vs (walking_refused s.walked m vs e)))

@@ -1,13 +1,14 @@
 // A message written from a flat list: for each parameter its tag (2 octets), the length of its value (4 octets) and the
 // value. The list holds records and their values, and has no bound of its own.
-ghost use Rattle.std.specs.Prelude.{◌≡◌, List, ℕ, length};
+ghost use Rattle.std.specs.Prelude.{◌≡◌, ◌+◌, List, ℕ, length};
 ghost use Rattle.std.specs.Iterator.{at_most};
 ghost use Rattle.bcd.specs.Outcome.{accepted, after, mapped, each, fit64, delivered, deliver};
 ghost use Rattle.bcd.specs.Answers.{outcome_of};
 ghost use Rattle.parameter.specs.Parameter.{encode_param, wire_length};
 ghost use Rattle.message.specs.Message.{message, write_message};
 ghost use Rattle.flat.specs.Flat.{flat_step, flat_list, encode_flat};
-ghost use Rattle.flat.specs.Steps.Entries.{entry_of, Gives, Left};
+ghost use Rattle.parameter.specs.Items.{Left};
+ghost use Rattle.flat.specs.Steps.Entries.{entry_of, Gives};
 
 use bcd::error::Refusal;
 use message::header::CommonHeader;
@@ -15,6 +16,7 @@ use message::types::MessageType;
 use parameter::{Place, wire_length};
 
 // The record at a position of a flat list; none at the end of the list. 15.
+#[tactic(auto, unfolding(crate::specs::Flat::flat_step, parameter::specs::Parameter::two_at))]
 fn step(list: &[u8], at: usize) -> Result<Option<Place>, Refusal>
     ensures { entry_of result ≡ flat_step list.now at }
 {
@@ -99,7 +101,7 @@ fn list_length(list: &[u8]) -> Result<usize, Refusal>
 // Writes the parameters of a flat list, which take the whole slice.
 fn write_list(list: &[u8], out: &mut [u8]) -> Result<(), Refusal>
     requires { accepted (length out.old) ≡ mapped length (after (flat_list list.now) (each encode_param)) }
-    ensures written { accepted out.new ≡ after (flat_list list.now) (each encode_param) }
+    ensures { mapped (λ _. out.new) (outcome_of result) ≡ after (flat_list list.now) (each encode_param) }
 {
     let mut at = 0;
     for place in FlatList::new(list) {

@@ -1,5 +1,5 @@
 -- What a walk over a flat list gives, record by record.
-use Rattle.std.specs.Prelude.{ℕ, ◌+◌, ◌-◌, ◌≡◌, List, length, Option, None, Some, Result, Ok, Err}
+use Rattle.std.specs.Prelude.{ℕ, ◌+◌, ◌≡◌, List, length, Option, None, Some, Result, Ok, Err}
 use Rattle.bcd.specs.Outcome.{Outcome, accepted}
 use Rattle.bcd.specs.Answers.{refusal_of}
 use Rattle.bcd.specs.declared.error.Refusal.{Refusal}
@@ -13,12 +13,8 @@ entry_of (Ok None) = accepted ended
 entry_of (Ok (Some p)) = accepted (found p (p.start + p.length))
 entry_of (Err r) = refusal_of r
 
--- An item is what the step at the position found; after a refusal nothing is left.
-abbrev pub Gives : List ℕ → (at : ℕ) → Option (Result Place Refusal) → List ℕ → (next : ℕ) → Type 0
-Gives xs at None ys next = (ys ≡ xs) × (accepted ended ≡ flat_step xs at)
-Gives xs at (Some (Ok p)) ys next = (ys ≡ xs) × (accepted (found p next) ≡ flat_step xs at)
-Gives xs at (Some (Err r)) ys next = (length ys ≡ 0) × (refusal_of r ≡ flat_step xs at)
-
--- No more items come than this.
-abbrev pub Left : List ℕ → (at : ℕ) → ℕ
-Left xs at = length xs + (length xs - at)
+-- An item is what the step at the position finds, and the position moves on; after a refusal no octets are left.
+abbrev pub Gives : (xs : List ℕ) (at : ℕ) → Option (Result Place Refusal) → (left : List ℕ) (next : ℕ) → Type 0
+Gives xs at None left next = (left ≡ xs) × (accepted ended ≡ flat_step xs at)
+Gives xs at (Some (Ok p)) left next = (left ≡ xs) × (accepted (found p next) ≡ flat_step xs at)
+Gives xs at (Some (Err r)) left next = (length left ≡ 0) × (refusal_of r ≡ flat_step xs at)

@@ -1,31 +1,27 @@
--- `flat::list::list_length` meets its contract: the loop has measured the first n parameters.
-use mathlib.Core.Path.{◌≡◌, sym, ap, ◌∙◌}
-use Rattle.parameter.specs.declared.Step.{Step}
-use Rattle.parameter.specs.Answers.{step_of}
-use Rattle.flat.specs.Flat.{flat_step}
-use Rattle.flat.proofs.FlatList.{walking_out, walking_end}
+-- `flat::list::list_length` meets its contract.
+use mathlib.Core.Path.{◌≡◌, ◌∙◌}
+use Rattle.bcd.proofs.Results.{exit}
 use Rattle.flat.proofs.Summing.{summed_start, summed_more, summed_all, summed_refused}
 use Rattle.flat.proofs.list.list_length.Goals as goal
 
-pub loop-n-init : goal.loop-n-init
-loop-n-init c = summed_start c.args.list.now
+pub loop-place-init : goal.loop-place-init
+loop-place-init c =
+    let a : c.into_iter-place-iterator.result.at ≡ 0 = cc in
+    (cc, rw a (summed_start c.args.list.now))
 
-pub loop-n-preserved : goal.loop-n-preserved
-loop-n-preserved c =
-    let stepped : (s : Step) → c.step.result ≡ s → flat_step c.args.list.now c.loop-n.c.at ≡ step_of s = λ s e. sym c.step.ensures ∙ ap step_of e in
-    summed_more c.loop-n.invariant c.loop-n-test.true c.in-Parameter.place c.in-Parameter.next.at _ (stepped _ c.in-Parameter.is) c.add-sum.ensures
+pub returns-in_err-place : goal.returns-in_err-place
+returns-in_err-place c =
+    let i = c.loop-place.invariant in
+    let s = rw (c.in_err-place.was, i.0) at c.in-Some.ensures.steps in
+    exit c.from_residual.result _ c.from_residual.ensures.1 ∙ summed_refused i.1 _ _ s.1
 
-pub returns-in-End : goal.returns-in-End
-returns-in-End c =
-    let stepped : (s : Step) → c.step.result ≡ s → flat_step c.args.list.now c.loop-n.c.at ≡ step_of s = λ s e. sym c.step.ensures ∙ ap step_of e in
-    let s = c.loop-n.invariant in
-    summed_all s (walking_end s.walked c.loop-n-test.true (stepped _ c.in-End.is))
-
-pub returns-in-Refused : goal.returns-in-Refused
-returns-in-Refused c =
-    let stepped : (s : Step) → c.step.result ≡ s → flat_step c.args.list.now c.loop-n.c.at ≡ step_of s = λ s e. sym c.step.ensures ∙ ap step_of e in
-    summed_refused c.loop-n.invariant c.loop-n-test.true _ _ (stepped _ c.in-Refused.is)
+pub loop-place-preserved : goal.loop-place-preserved
+loop-place-preserved c =
+    let i = c.loop-place.invariant in
+    let s = rw (c.in_ok-place.was, i.0) at c.in-Some.ensures.steps in
+    (s.0, summed_more i.1 c.in_ok-place.field-0 c.next.new.self.at _ s.1 c.add-sum.ensures)
 
 pub returns : goal.returns
-returns c = let s = c.loop-n.invariant in
-    summed_all s (walking_out s.walked c.loop-n-test.false)
+returns c = let i = c.loop-place.invariant in
+    let s = rw i.0 at c.in-None.ensures.steps in
+    summed_all i.1 s.1

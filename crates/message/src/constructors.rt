@@ -195,7 +195,7 @@ impl SuaMessage {
         let cause = [0, 0, cause_type, cause_value];
         let parts = [
             Some(Part::Number(tags::ROUTING_CONTEXT, routing_context)),
-            Some(Part::Octets(tags::SCCP_CAUSE, &cause)),
+            octets(tags::SCCP_CAUSE, Some(&cause)),
             Some(Part::Address(tags::SOURCE_ADDRESS, source, source_others)),
             Some(Part::Address(
                 tags::DESTINATION_ADDRESS,

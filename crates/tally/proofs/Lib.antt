@@ -4,7 +4,16 @@ pub mod Lists
 pub mod Beginning
 pub mod Codes
 pub mod Loading
+pub mod Rules
 pub mod Starts
 pub mod Telling
 pub mod Passing
 pub mod Finding
+pub mod LongestMember
+pub mod Meaning
+pub mod Placing
+pub mod Raising
+pub mod Counting
+pub mod Calls
+pub mod Day
+pub mod Worked

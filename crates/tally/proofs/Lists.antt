@@ -68,3 +68,9 @@ module _ {A : Type 0} (test : A → Bool) where
 -- a sum, number by number
 pub sum_cons : (n : ℕ) (ns : List ℕ) → sum (n ∷ ns) ≡ n + sum ns
 sum_cons n ns = sum_by-cons (λ x. x) n ns
+
+-- no number is above the sum
+pub below_sum : (i : ℕ) (ns : List ℕ) → get_or ns i 0 ≤ sum ns
+below_sum i [] = omega arith
+below_sum zero (n ∷ ns) = omega (arith, sum_cons n ns)
+below_sum (suc i) (n ∷ ns) = omega (arith, below_sum i ns, sum_cons n ns)

@@ -10,6 +10,8 @@ pub mod Telling
 pub mod Passing
 pub mod Finding
 pub mod LongestMember
+pub mod Destinations
+pub mod Looking
 pub mod Meaning
 pub mod Placing
 pub mod Raising

@@ -18,6 +18,7 @@ use Rattle.tally.specs.Members.{between, every, begins, same, reach, place_of, l
 use Rattle.tally.specs.Facts.{LongestAt, NoneAt}
 use Rattle.tally.proofs.Lists.{every_at, between_inv}
 use Rattle.tally.proofs.Beginning.{begins-take, take_begins, begins-first, same_self, same_true, fit, fit_all, fit-most, reach_inside}
+use Rattle.tally.proofs.Codes.{Kept}
 use Rattle.tally.proofs.Passing.{place_none}
 use Rattle.tally.proofs.Telling.{take-map}
 
@@ -122,3 +123,15 @@ digits-first xs count n e =
     ap (map built_in.char) first
     ∙ sym (take-map built_in.char 15 (take m (halves xs)))
     ∙ ap (take 15) (digits-most built_in xs count)
+
+-- No digit past the fifteenth decides.
+pub longest-digits :
+    {ps : List (List ℕ)} {lengths held : List ℕ}
+    → Kept ps lengths held
+    → every (between 1 15) lengths ≡ true
+    → (xs : List ℕ) (count n : ℕ)
+    → n ≡ min 15 (min count (2 * length xs))
+    → longest ps (map built_in.char (take n (halves xs))) ≡ longest ps (digits_in built_in xs count)
+longest-digits {ps} k short xs count n e =
+    ap (longest ps) (digits-first xs count n e)
+    ∙ longest-first ps (digits_in built_in xs count) (subst (λ (l : List ℕ). every (between 1 15) l ≡ true) k.sizes short)

@@ -71,12 +71,12 @@ impl<'a> Members<'a> {
         self.lengths.len()
     }
 
-    // The place of the longest member that the first n digits begin with; the number of members if there is none.
-    fn longest(&self, octets: &[u8], n: usize) -> usize
-        requires n_bound { n ≤ 15 }
-        requires n_in_bounds { n ≤ 2 * length octets.now }
-        ensures { result ≡ longest self.now (digits_in built_in octets.now n) }
+    // The place of the longest member that so many digits begin with; the number of members if there is none. No digit past the
+    // fifteenth decides.
+    fn longest(&self, octets: &[u8], count: usize) -> usize
+        ensures { result ≡ longest self.now (digits_in built_in octets.now count) }
     {
+        let n = count.min(2 * octets.len()).min(15);
         let first = starts(octets, n);
         let mut best = 0;
         let mut row = self.lengths.len();
@@ -90,13 +90,11 @@ impl<'a> Members<'a> {
         row
     }
 
-    // The row of a title. No digit past the fifteenth decides.
+    // The row of a title.
     pub fn title_row(&self, title: &[u8]) -> usize
         requires { 8 ≤ length title.now }
         ensures { result ≡ longest self.now (title_at built_in title.now).digits }
     {
-        let digits = &title[8..];
-        let n = (title[4] as usize).min(2 * digits.len()).min(15);
-        self.longest(digits, n)
+        self.longest(&title[8..], usize::from(title[4]))
     }
 }

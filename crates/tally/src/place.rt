@@ -4,10 +4,10 @@ ghost use Rattle.bcd.specs.Outcome.{after, mapped, bounded};
 ghost use Rattle.bcd.specs.Answers.{outcome_of};
 ghost use Rattle.bcd.specs.Digits.{built_in};
 ghost use Rattle.parameter.specs.Walk.{places};
+ghost use Rattle.parameter.specs.Table.{first_with};
 ghost use Rattle.address.specs.Address.{read_address};
 ghost use Rattle.form.specs.Form.{settled, meaning};
 ghost use Rattle.tally.specs.Tally.{title_row, meant, placed};
-ghost use Rattle.tally.specs.Steps.Firsts.{firsts};
 
 use crate::members::Members;
 use address::interpret::interpret;
@@ -23,16 +23,11 @@ pub struct Gain {
     pub octets: usize,
 }
 
-// The parameters that decide what a message adds: the first destination address and the first Data.
-#[derive(Clone, Copy)]
-pub(crate) struct Firsts {
-    pub destination: Option<Place>,
-    pub data: Option<Place>,
-}
-
 // The first destination address and the first Data of a message. 12, then 5 or 6 in wire order.
-fn find_firsts(input: &[u8]) -> Result<Firsts, Refusal>
-    ensures { outcome_of result ≡ bounded input.now (mapped firsts (places input.now 8)) }
+fn firsts(input: &[u8]) -> Result<(Option<Place>, Option<Place>), Refusal>
+    ensures { outcome_of result
+        ≡ bounded input.now
+        (mapped (λ ps. (first_with 0x0103 ps, first_with 0x010B ps)) (places input.now 8)) }
 {
     let mut destination = None;
     let mut data = None;
@@ -44,7 +39,7 @@ fn find_firsts(input: &[u8]) -> Result<Firsts, Refusal>
             _ => {}
         }
     }
-    Ok(Firsts { destination, data })
+    Ok((destination, data))
 }
 
 impl Members<'_> {
@@ -66,12 +61,12 @@ impl Members<'_> {
     {
         form::settled_length(input)?;
         let header = CommonHeader::decode(input)?;
-        let firsts = find_firsts(input)?;
-        let row = match (header.message_type, firsts.destination) {
+        let (destination, data) = firsts(input)?;
+        let row = match (header.message_type, destination) {
             (MessageType::Cldt, Some(place)) => self.destination_row(place.value(input))?,
             _ => self.count(),
         };
-        let octets = firsts.data.map_or(0, |place| place.length);
+        let octets = data.map_or(0, |place| place.length);
         Ok(Gain { row, octets })
     }
 

@@ -106,7 +106,7 @@ digits_back scheme xs ds o e =
     let c = h.counted in
     subst (DigitsBack scheme xs) h.digits (record {
       by = omega (arith, c.by, c.octets);
-      writes = known_written xs h.count o h.few h.known ∙ ap accepted (packed_back xs h.count c.octets h.filler);
+      writes = known_written xs h.count (omega (arith, c.octets)) h.few h.known ∙ ap accepted (packed_back xs h.count c.octets h.filler);
       known = h.known;
     })
 

@@ -1,6 +1,7 @@
 -- Laws and theorems that belong to no one function.
 pub mod Invalid
 pub mod Known
+pub mod Copying
 pub mod Digits
 pub mod Parts
 pub mod Parties

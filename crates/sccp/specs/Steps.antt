@@ -1,7 +1,7 @@
 -- Steps of the code between its public calls. No public contract of this crate cites these.
 use denote.Ref.{Bor}
-use Rattle.std.specs.Prelude.{ℕ, ◌+◌, ◌*◌, ◌/◌, ◌&&◌, Bool, List, [], ◌∷◌, ◌++◌, leb, eqb, length, get_or, take}
-use Rattle.std.specs.Prelude.{Option, None, Some, option_map, unwrap_or, is_some}
+use Rattle.std.specs.Prelude.{ℕ, ◌+◌, ◌&&◌, Bool, List, [], ◌++◌, length, take}
+use Rattle.std.specs.Prelude.{Option, None, Some, option_map, is_some}
 use Rattle.bcd.specs.Outcome.{Outcome, accepted, pick, demand, each}
 use Rattle.bcd.specs.Digits.{halves, pack, built_in, digits_in}
 use Rattle.parameter.specs.Parameter.{Param, two, padded_length}
@@ -31,10 +31,6 @@ address_from p = with_parts (pick p.on_title 1 2) p.point_code p.ssn (option_map
 -- A part that was read, and the octets behind it.
 abbrev pub behind : Option ℕ × Bor (List ℕ) → Option ℕ × List ℕ
 behind p = (p.0, p.1.now)
-
--- Digits are at most 255, and the half octet behind them is 0.
-abbrev pub filled : List ℕ → (count : ℕ) → Outcome ℕ
-filled xs count = demand (leb count 255 && eqb (get_or (halves xs) count 0) 0) 18 [] (accepted count)
 
 -- What an address needs to convert, but for its title and its point code.
 abbrev pub is_plain : Address → Bool

@@ -10,7 +10,8 @@ use bcd::rewrite::rewritten_digits_length;
 #[derive(Clone, Copy)]
 pub(crate) struct Digits<'a> {
     pub(crate) octets: &'a [u8],
-    pub(crate) count: u8,
+    pub(crate) count: usize,
+    ghost few: { count ≤ 255 },
     ghost whole: { length octets.now ≡ (count + 1) / 2 },
     ghost known: { known (digits_in built_in octets.now count) ≡ true },
 }
@@ -41,26 +42,29 @@ impl<'a> Digits<'a> {
     ghost use Rattle.bcd.specs.Outcome.{accepted, pick, delivered, deliver};
     ghost use Rattle.sccp.specs.Steps.{digits_from, packed};
 
-    // So many digits that octets begin with, unless one is `?`.
+    // Digits read: as many as the count says, or as there are. None where one is `?`.
     pub(crate) fn new(octets: &'a [u8], count: u8) -> Option<Digits<'a>>
-        requires { count ≤ 2 * length octets.now }
         ensures { let digits = digits_in built_in octets.entry.now count in option_map digits_from result ≡ pick (known digits) (Some digits) None }
     {
-        let octets = &octets[..usize::from(count).div_ceil(2)];
-        rewritten_digits_length(octets, count).ok()?;
-        Some(Digits { octets, count })
+        let count = usize::from(count).min(2 * octets.len());
+        let octets = &octets[..count.div_ceil(2)];
+        match rewritten_digits_length(octets, count as u8) {
+            Ok(_) => Some(Digits { octets, count }),
+            Err(_) => None,
+        }
     }
 
-    // Stores the half octets at the front of a slice, behind an odd number a half octet of 0, and tells how many octets they take.
+    // Stores the half octets at the front of a slice, behind an odd number one of 0, and tells how many octets they take.
+    #[tactic(auto, unfolding(bcd::specs::Outcome::deliver))]
     pub(crate) fn put(self, out: &mut [u8]) -> usize
         requires { length self.octets.now ≤ length out.old }
         ensures { delivered (accepted result) out.new ≡ deliver (accepted (packed self.entry)) out.old }
     {
-        let n = self.octets.len();
-        out[..n].copy_from_slice(self.octets);
+        let whole = self.count / 2;
+        out[..whole].copy_from_slice(&self.octets[..whole]);
         if self.count % 2 == 1 {
-            out[n - 1] = self.octets[n - 1] % 16;
+            out[whole] = self.octets[whole] % 16;
         }
-        n
+        self.octets.len()
     }
 }

@@ -1,18 +1,19 @@
 // Party addresses of SCCP, read and written (ITU-T Q.713, 3.4).
-ghost use Rattle.std.specs.Prelude.{◌≡◌, ◌≤◌, length, Some, option_map, get_or, leb, eqb, ◌&&◌};
-ghost use Rattle.bcd.specs.Outcome.{accepted, after, demand, mapped, bounded, delivered, deliver};
+ghost use Rattle.std.specs.Prelude.{◌≡◌, ◌≤◌, length, option_map, unwrap_or, IfOk};
+ghost use Rattle.bcd.specs.Outcome.{accepted, mapped, bounded, delivered, deliver};
 ghost use Rattle.bcd.specs.Answers.{outcome_of};
-ghost use Rattle.bcd.specs.Digits.{halves};
 ghost use Rattle.sccp.specs.Sccp.{code_in, sub_in, digit_count, digits_of, title_in, title_by, sccp_in};
 ghost use Rattle.sccp.specs.Sccp.{code_octets, sub_octets, title_octets, indicator, sccp_octets};
-ghost use Rattle.sccp.specs.Steps.{digits_from, title_from, address_from, behind, filled, title_length, party_length};
+ghost use Rattle.sccp.specs.Steps.{digits_from, title_from, address_from, behind, title_length, party_length};
 
 use crate::common::{Common, Digits, Title};
 use bcd::error::Refusal;
+use bcd::half_in;
 
 // The point code, if it is there, and the octets behind it; its low octet comes first (Q.713, 3.4.2.1). 18.
 fn code_in(there: bool, octets: &[u8]) -> Result<(Option<u16>, &[u8]), Refusal>
-    ensures { mapped behind (outcome_of result) ≡ code_in there octets.now }
+    ensures few { IfOk result (λ read. unwrap_or read.0 0 ≤ 16383) }
+    ensures read { mapped behind (outcome_of result) ≡ code_in there octets.now }
 {
     if !there {
         return Ok((None, octets));
@@ -39,27 +40,27 @@ fn ssn_in(there: bool, octets: &[u8]) -> Result<(Option<u8>, &[u8]), Refusal>
     Ok((Some(*ssn), rest))
 }
 
-// How many digits stand in octets, by their encoding scheme; 255 take 128 octets. The half behind an odd number is 0 (Q.713,
-// 3.4.2.3.1 and 3.4.2.3.4). 18.
-fn digit_count(scheme: u8, octets: &[u8]) -> Result<u8, Refusal>
-    ensures { outcome_of result ≡ after (digit_count scheme (length octets.now)) (filled octets.now) }
+// How many digits stand in octets, by their encoding scheme (Q.713, 3.4.2.3.4). 18.
+fn digit_count(scheme: u8, octets: &[u8]) -> Result<usize, Refusal>
+    ensures { outcome_of result ≡ digit_count scheme (length octets.now) }
 {
-    let n = octets.len();
-    if scheme == 1 && 1 <= n && n <= 128 && octets[n - 1] <= 15 {
-        return Ok((2 * n - 1) as u8);
+    match scheme {
+        1 if !octets.is_empty() => Ok(2 * octets.len() - 1),
+        2 => Ok(2 * octets.len()),
+        _ => Err(Refusal::InvalidSccpAddress),
     }
-    if scheme == 2 && n <= 127 {
-        return Ok((2 * n) as u8);
-    }
-    Err(Refusal::InvalidSccpAddress)
 }
 
-// The digits, by their encoding scheme. 18.
+// The digits, by their encoding scheme: at most 255, and a half octet of 0 behind an odd number of them (Q.713, 3.4.2.3.1). 18.
+#[tactic(auto, unfolding(crate::specs::Sccp::digits_of))]
 fn digits_in(scheme: u8, octets: &[u8]) -> Result<Digits<'_>, Refusal>
     ensures { mapped digits_from (outcome_of result) ≡ digits_of scheme octets.now }
 {
     let count = digit_count(scheme, octets)?;
-    Digits::new(octets, count).ok_or(Refusal::InvalidSccpAddress)
+    if 255 < count || half_in(octets, count) != 0 {
+        return Err(Refusal::InvalidSccpAddress);
+    }
+    Digits::new(octets, count as u8).ok_or(Refusal::InvalidSccpAddress)
 }
 
 // A title of indicator 4. 18.
@@ -92,6 +93,7 @@ fn title_by(indicator: u8, octets: &[u8]) -> Result<Option<Title<'_>>, Refusal>
 }
 
 // A party address: the address indicator (Q.713, 3.4.1), and the parts behind it. 18.
+#[tactic(auto, unfolding(crate::specs::Sccp::sccp_in))]
 fn address_in(octets: &[u8]) -> Result<Common<'_>, Refusal>
     ensures { mapped address_from (outcome_of result) ≡ sccp_in octets.now }
 {
@@ -124,6 +126,7 @@ pub(crate) fn read(octets: &[u8]) -> Result<Common<'_>, Refusal>
 }
 
 // Stores the point code, if it is there, the low octet first, and tells how many octets it takes.
+#[tactic(auto, unfolding(bcd::specs::Outcome::deliver))]
 fn put_code(code: Option<u16>, out: &mut [u8]) -> usize
     requires { length (code_octets code) ≤ length out.old }
     ensures { delivered (accepted result) out.new ≡ deliver (accepted (code_octets code)) out.old }
@@ -136,6 +139,7 @@ fn put_code(code: Option<u16>, out: &mut [u8]) -> usize
 }
 
 // Stores the SSN, if it is there, and tells how many octets it takes.
+#[tactic(auto, unfolding(bcd::specs::Outcome::deliver))]
 fn put_ssn(ssn: Option<u8>, out: &mut [u8]) -> usize
     requires { length (sub_octets ssn) ≤ length out.old }
     ensures { delivered (accepted result) out.new ≡ deliver (accepted (sub_octets ssn)) out.old }
@@ -148,6 +152,7 @@ fn put_ssn(ssn: Option<u8>, out: &mut [u8]) -> usize
 }
 
 // Stores the title, if it is there, and tells how many octets it takes. The encoding scheme is odd for an odd number of digits.
+#[tactic(auto, unfolding(bcd::specs::Outcome::deliver))]
 fn put_title(title: Option<Title<'_>>, out: &mut [u8]) -> usize
     requires { title_length title ≤ length out.old }
     ensures { delivered (accepted result) out.new ≡ deliver (title_octets (option_map title_from title.entry)) out.old }
@@ -155,10 +160,9 @@ fn put_title(title: Option<Title<'_>>, out: &mut [u8]) -> usize
     let Some(title) = title else {
         return 0;
     };
-    let scheme = 2 - title.digits.count % 2;
-    out[0] = title.translation_type;
-    out[1] = title.numbering_plan * 16 + scheme;
-    out[2] = title.nature_of_address;
+    let scheme = 2 - (title.digits.count % 2) as u8;
+    let plan = title.numbering_plan * 16 + scheme;
+    out[..3].copy_from_slice(&[title.translation_type, plan, title.nature_of_address]);
     3 + title.digits.put(&mut out[3..])
 }
 

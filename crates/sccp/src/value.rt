@@ -12,6 +12,7 @@ ghost use Rattle.sccp.specs.Sccp.{absent_or, title_converts, converts};
 ghost use Rattle.sccp.specs.Steps.{title_from, address_from, is_plain, convertible, title_param, param_length, head_from, value_length};
 
 use crate::common::{Common, Digits, Title};
+use address::encode::write_four;
 use address::interpret::interpret;
 use address::parts::Parts;
 use bcd::error::Refusal;
@@ -43,12 +44,11 @@ fn title_at(value: &[u8]) -> Result<Title<'_>, Refusal>
     if value[3] != 4 || 15 < value[6] || 127 < value[7] {
         return Err(Refusal::UnconvertibleAddress);
     }
-    let count = usize::from(value[4]).min(2 * (value.len() - 8)) as u8;
     Ok(Title {
         translation_type: value[5],
         numbering_plan: value[6],
         nature_of_address: value[7],
-        digits: Digits::new(&value[8..], count).ok_or(Refusal::UnconvertibleAddress)?,
+        digits: Digits::new(&value[8..], value[4]).ok_or(Refusal::UnconvertibleAddress)?,
     })
 }
 
@@ -131,7 +131,7 @@ fn put_title(title: Option<Title<'_>>, out: &mut [u8]) -> usize
         0,
         0,
         4,
-        title.digits.count,
+        title.digits.count as u8,
         title.translation_type,
         title.numbering_plan,
         title.nature_of_address,
@@ -140,19 +140,6 @@ fn put_title(title: Option<Title<'_>>, out: &mut [u8]) -> usize
     let length = 8 + title.digits.put(&mut out[12..]);
     let _ = parameter::frame(tags::GLOBAL_TITLE, length, out);
     (length + 4).next_multiple_of(4)
-}
-
-// Stores a point code or an SSN as one sub-parameter, if it is there, and tells how many octets it takes.
-fn put_four(tag: u16, value: Option<[u8; 4]>, out: &mut [u8]) -> usize
-    requires { pick (is_some value) 8 0 ≤ length out.old }
-    ensures { delivered (accepted result) out.new
-        ≡ deliver (accepted (run_octets (given_param tag value))) out.old }
-{
-    let Some(octets) = value else {
-        return 0;
-    };
-    let _ = parameter::encode(tag, &octets, out);
-    8
 }
 
 // Stores the routing indicator and the address indicator.
@@ -189,7 +176,7 @@ pub(crate) fn write(address: Common<'_>, out: &mut [u8]) -> Result<usize, Refusa
     put_head(address, out);
     let code_place = 4 + put_title(address.title, &mut out[4..]);
     let code = address.point_code.map(|code| u32::from(code).to_be_bytes());
-    let ssn_place = code_place + put_four(tags::POINT_CODE, code, &mut out[code_place..]);
-    let ssn = address.ssn.map(|ssn| u32::from(ssn).to_be_bytes());
-    Ok(ssn_place + put_four(tags::SUBSYSTEM_NUMBER, ssn, &mut out[ssn_place..]))
+    let ssn_place = code_place + write_four(tags::POINT_CODE, code, &mut out[code_place..])?;
+    let ssn = address.ssn.map(|ssn| [0, 0, 0, ssn]);
+    Ok(ssn_place + write_four(tags::SUBSYSTEM_NUMBER, ssn, &mut out[ssn_place..])?)
 }

@@ -2,6 +2,7 @@
 pub mod Invalid
 pub mod Known
 pub mod Copying
+pub mod Writing
 pub mod Digits
 pub mod Parts
 pub mod Parties
@@ -9,3 +10,4 @@ pub mod Values
 pub mod Back
 pub mod Exactly
 pub mod Worked
+pub mod PartyWriting

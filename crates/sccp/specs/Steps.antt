@@ -1,13 +1,14 @@
 -- Steps of the code between its public calls. No public contract of this crate cites these.
 use denote.Ref.{Bor}
-use Rattle.std.specs.Prelude.{ℕ, ◌+◌, ◌&&◌, Bool, List, [], ◌++◌, length, take}
+use Rattle.std.specs.Prelude.{ℕ, ◌+◌, ◌&&◌, Bool, List, [], ◌++◌, eqb, length, get_or, take}
 use Rattle.std.specs.Prelude.{Option, None, Some, option_map, is_some}
 use Rattle.bcd.specs.Outcome.{Outcome, accepted, pick, demand, each}
 use Rattle.bcd.specs.Digits.{halves, pack, built_in, digits_in}
-use Rattle.parameter.specs.Parameter.{Param, two, padded_length}
+use Rattle.parameter.specs.Parameter.{Param, two, two_at, padded_length}
 use Rattle.address.specs.Address as Sua
-use Rattle.address.specs.Address.{Address, present, sub_param}
-use Rattle.sccp.specs.Sccp.{with_parts, routes, included, alone}
+use Rattle.address.specs.Address.{Address, bit, present, sub_param}
+use Rattle.address.specs.declared.parts.Parts.{Parts}
+use Rattle.sccp.specs.Sccp.{with_parts, same, routes}
 use Rattle.sccp.specs.declared.common.Digits.{Digits}
 use Rattle.sccp.specs.declared.common.Title.{Title}
 use Rattle.sccp.specs.declared.common.Common.{Common}
@@ -32,9 +33,14 @@ address_from p = with_parts (pick p.on_title 1 2) p.point_code p.ssn (option_map
 abbrev pub behind : Option ℕ × Bor (List ℕ) → Option ℕ × List ℕ
 behind p = (p.0, p.1.now)
 
--- What an address needs to convert, but for its title and its point code.
-abbrev pub is_plain : Address → Bool
-is_plain a = routes a.routing && (included a && alone a.others)
+-- What an address needs to convert, but for its title and its point code: by the parts of an address value that was read.
+abbrev pub plain_parts : List ℕ → Parts → Bool
+plain_parts v s =
+    routes (two_at v 0)
+    && (same (bit 4 (get_or v 3 0)) (is_some s.title)
+    && (same (bit 2 (get_or v 3 0)) (is_some s.code)
+    && (same (bit 1 (get_or v 3 0)) (is_some s.ssn)
+    && eqb s.other_count 0)))
 
 -- What converts is accepted; anything else is 17.
 abbrev pub convertible : {A : Type 0} → (A → Bool) → A → Outcome A

@@ -9,7 +9,7 @@ ghost use Rattle.address.specs.Steps.GivenParts.{given_param};
 ghost use Rattle.address.specs.Steps.Kept.{kept_title, kept_code, kept_sub};
 ghost use Rattle.address.specs.Steps.Plan.{HeldIn, Read};
 ghost use Rattle.sccp.specs.Sccp.{absent_or, title_converts, converts};
-ghost use Rattle.sccp.specs.Steps.{title_from, address_from, is_plain, convertible, title_param, param_length, head_from, value_length};
+ghost use Rattle.sccp.specs.Steps.{title_from, address_from, plain_parts, convertible, title_param, param_length, head_from, value_length};
 
 use crate::common::{Common, Digits, Title};
 use address::encode::write_four;
@@ -20,9 +20,10 @@ use parameter::{Place, tags};
 
 // Whether an address is routed on title or on SSN and point code, its include bits say which parts are there, and there are no
 // other sub-parameters.
+#[tactic(auto, unfolding(parameter::specs::Parameter::two_at))]
 fn plain(value: &[u8], parts: Parts) -> bool
-    requires { Read value.now parts }
-    ensures { accepted result ≡ mapped is_plain (read_address built_in value.now) }
+    requires { 4 ≤ length value.now }
+    ensures { result ≡ plain_parts value.now parts }
 {
     let routing = u16::from_be_bytes([value[0], value[1]]);
     let bits = value[3];
@@ -65,6 +66,7 @@ fn title_in(value: &[u8], place: Option<Place>) -> Result<Option<Title<'_>>, Ref
 }
 
 // The point code, if there is one, of 14 bits. 17.
+#[tactic(auto, unfolding(parameter::specs::Parameter::two_at))]
 fn code_in(value: &[u8], place: Option<Place>) -> Result<Option<u16>, Refusal>
     requires { HeldIn value.now 4 place }
     ensures { outcome_of result
@@ -118,13 +120,13 @@ pub(crate) fn read(value: &[u8]) -> Result<Common<'_>, Refusal>
     address_in(value, interpret(value)?)
 }
 
-// Stores the title as one sub-parameter, if it is there, and tells how many octets it takes.
-fn put_title(title: Option<Title<'_>>, out: &mut [u8]) -> usize
+// Writes the title as one sub-parameter, if it is there: its value in place, and tag, length and padding round it.
+fn write_title(title: Option<Title<'_>>, out: &mut [u8]) -> Result<usize, Refusal>
     requires { param_length title ≤ length out.old }
-    ensures { delivered (accepted result) out.new ≡ deliver (mapped run_octets (title_param title.entry)) out.old }
+    ensures { delivered (outcome_of result) out.new ≡ deliver (mapped run_octets (title_param title.entry)) out.old }
 {
     let Some(title) = title else {
-        return 0;
+        return Ok(0);
     };
     let head = [
         0,
@@ -138,12 +140,11 @@ fn put_title(title: Option<Title<'_>>, out: &mut [u8]) -> usize
     ];
     out[4..12].copy_from_slice(&head);
     let length = 8 + title.digits.put(&mut out[12..]);
-    let _ = parameter::frame(tags::GLOBAL_TITLE, length, out);
-    (length + 4).next_multiple_of(4)
+    parameter::frame(tags::GLOBAL_TITLE, length, out)
 }
 
-// Stores the routing indicator and the address indicator.
-fn put_head(address: Common<'_>, out: &mut [u8])
+// Writes the routing indicator and the address indicator.
+fn write_head(address: Common<'_>, out: &mut [u8])
     requires { 4 ≤ length out.old }
     ensures { out.new ≡ head_from address.entry ++ drop 4 out.old }
 {
@@ -173,8 +174,8 @@ pub(crate) fn write(address: Common<'_>, out: &mut [u8]) -> Result<usize, Refusa
     if out.len() < length {
         return Err(Refusal::OutputTooSmall(length));
     }
-    put_head(address, out);
-    let code_place = 4 + put_title(address.title, &mut out[4..]);
+    write_head(address, out);
+    let code_place = 4 + write_title(address.title, &mut out[4..])?;
     let code = address.point_code.map(|code| u32::from(code).to_be_bytes());
     let ssn_place = code_place + write_four(tags::POINT_CODE, code, &mut out[code_place..])?;
     let ssn = address.ssn.map(|ssn| [0, 0, 0, ssn]);

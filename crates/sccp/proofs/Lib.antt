@@ -11,3 +11,4 @@ pub mod Back
 pub mod Exactly
 pub mod Worked
 pub mod PartyWriting
+pub mod ValueWriting

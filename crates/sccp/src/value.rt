@@ -3,13 +3,13 @@ ghost use Rattle.std.specs.Prelude.{◌≡◌, ◌++◌, ◌≤◌, leb, length,
 ghost use Rattle.bcd.specs.Outcome.{accepted, pick, after, mapped, delivered, deliver};
 ghost use Rattle.bcd.specs.Answers.{outcome_of};
 ghost use Rattle.bcd.specs.Digits.{built_in};
-ghost use Rattle.parameter.specs.Parameter.{run_octets};
+ghost use Rattle.parameter.specs.Parameter.{four, run_octets};
 ghost use Rattle.address.specs.Address.{title_at, read_address, write_address};
 ghost use Rattle.address.specs.Steps.GivenParts.{given_param};
 ghost use Rattle.address.specs.Steps.Kept.{kept_title, kept_code, kept_sub};
 ghost use Rattle.address.specs.Steps.Plan.{HeldIn, Read};
 ghost use Rattle.sccp.specs.Sccp.{absent_or, title_converts, converts};
-ghost use Rattle.sccp.specs.Steps.{title_from, address_from, plain_parts, convertible, title_param, param_length, head_from, value_length};
+ghost use Rattle.sccp.specs.Steps.{title_from, address_from, plain_parts, convertible, title_param, param_length, ssn_value, head_from, value_length};
 
 use crate::common::{Common, Digits, Title};
 use address::encode::write_four;
@@ -121,6 +121,7 @@ pub(crate) fn read(value: &[u8]) -> Result<Common<'_>, Refusal>
 }
 
 // Writes the title as one sub-parameter, if it is there: its value in place, and tag, length and padding round it.
+#[tactic(auto, unfolding(bcd::specs::Outcome::deliver, parameter::specs::Parameter::run_octets))]
 fn write_title(title: Option<Title<'_>>, out: &mut [u8]) -> Result<usize, Refusal>
     requires { param_length title ≤ length out.old }
     ensures { delivered (outcome_of result) out.new ≡ deliver (mapped run_octets (title_param title.entry)) out.old }
@@ -155,6 +156,20 @@ fn write_head(address: Common<'_>, out: &mut [u8])
     out[..4].copy_from_slice(&[0, routing, 0, bits]);
 }
 
+// The value of a point code as a sub-parameter.
+fn code_value(code: u16) -> [u8; 4]
+    ensures { result ≡ four code }
+{
+    u32::from(code).to_be_bytes()
+}
+
+// The value of an SSN as a sub-parameter.
+fn ssn_value(ssn: u8) -> [u8; 4]
+    ensures { result ≡ ssn_value ssn }
+{
+    [0, 0, 0, ssn]
+}
+
 // How many octets an address value takes.
 fn value_length(address: Common<'_>) -> usize
     ensures { result ≡ value_length address.entry }
@@ -176,8 +191,8 @@ pub(crate) fn write(address: Common<'_>, out: &mut [u8]) -> Result<usize, Refusa
     }
     write_head(address, out);
     let code_place = 4 + write_title(address.title, &mut out[4..])?;
-    let code = address.point_code.map(|code| u32::from(code).to_be_bytes());
+    let code = address.point_code.map(code_value);
     let ssn_place = code_place + write_four(tags::POINT_CODE, code, &mut out[code_place..])?;
-    let ssn = address.ssn.map(|ssn| [0, 0, 0, ssn]);
+    let ssn = address.ssn.map(ssn_value);
     Ok(ssn_place + write_four(tags::SUBSYSTEM_NUMBER, ssn, &mut out[ssn_place..])?)
 }

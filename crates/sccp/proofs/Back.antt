@@ -1,21 +1,23 @@
 -- There and back: an address of SUA that is converted, and a party address that is.
 use Prim.Native.Nat.{ℕ, ◌≤◌, ◌<◌}
 use mathlib.Core.Path.{◌≡◌, refl, sym, ap, ◌∙◌, subst}
+use mathlib.Core.Bool.{Bool, true, false}
 use mathlib.Core.Logic.{◌↔◌}
 use Rattle.std.specs.Prelude.{Option, None, Some}
 use mathlib.Core.List.{List, [], ◌∷◌, ◌++◌}
 use native.Mathlib.Omega.{arith}
 use lib.Dec.{leb}
 use lib.ListN.{length, get_or, drop}
-use Rattle.bcd.specs.Outcome.{Outcome, accepted, refused, after, All, Octets, most}
+use Rattle.bcd.specs.Outcome.{Outcome, accepted, refused, after, demand, All, bounded, Octets, most}
 use Rattle.bcd.specs.Digits.{built_in}
-use Rattle.bcd.proofs.Outcomes.{accepted_inj, never, after_inv, demand_inv, bounded-within, all_drop, octets_at}
+use Rattle.bcd.proofs.Outcomes.{accepted_inj, never, after_inv, after-demand, demand_inv, bounded-within, all_drop, octets_at}
 use Rattle.parameter.specs.Parameter.{Param}
 use Rattle.address.specs.Address.{Title, Address, title_in, title, code, sub, read_address, present, pieces, write_address}
 use Rattle.address.proofs.Titles as T
 use Rattle.address.proofs.SubParams.{PieceOf, is_title, is_sub, Came}
 use Rattle.address.proofs.Rewriting.{readable}
-use Rattle.sccp.specs.Sccp.{sccp_in, sub_octets, sccp_octets, to_sccp, from_sccp}
+use Rattle.sccp.specs.Steps.{convertible}
+use Rattle.sccp.specs.Sccp.{sccp_in, converts, sub_octets, sccp_octets, to_sccp, from_sccp}
 use Rattle.sccp.specs.Facts.{Back}
 use Rattle.sccp.proofs.Invalid.{sccp_invalid}
 use Rattle.sccp.proofs.Parts.{Held, HeldIn}
@@ -85,6 +87,23 @@ from_read xs h = bounded-within xs _ h
 
 pub from_party : (xs : List ℕ) (a : Address) → length xs ≤ most → sccp_in xs ≡ accepted a → from_sccp xs ≡ write_address built_in 0 a
 from_party xs a h e = from_read xs h ∙ ap (λ (o : Outcome Address). after o (write_address built_in 0)) e
+
+-- Each is a reading, and the writing of what it accepts.
+pub to_by : (v : List ℕ) → after (after (read_address built_in v) (convertible converts)) sccp_octets ≡ to_sccp v
+unfolding to_sccp sccp_octets
+to_by v = go (read_address built_in v)
+  where
+    go : (o : Outcome Address) → after (after o (convertible converts)) sccp_octets ≡ after o sccp_octets
+    go (refused n vs) = refl
+    go (accepted a) = fit (converts a) refl
+      where
+        fit : (b : Bool) → converts a ≡ b → after (demand b 17 [] (accepted a)) sccp_octets ≡ sccp_octets a
+        fit true e = refl
+        fit false e = rw e
+
+pub from_by : (xs : List ℕ) → after (bounded xs (sccp_in xs)) (write_address built_in 0) ≡ from_sccp xs
+unfolding from_sccp
+from_by xs = after-demand (leb (length xs) most) 12 (length xs ∷ []) (sccp_in xs) (write_address built_in 0)
 
 -- A party address that is read is written as an address value, which is read as the same address.
 pub party_writes :

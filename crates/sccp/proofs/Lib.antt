@@ -11,4 +11,5 @@ pub mod Back
 pub mod Exactly
 pub mod Worked
 pub mod PartyWriting
+pub mod ValueReading
 pub mod ValueWriting

@@ -162,8 +162,19 @@ module _ {v : List ℕ} {s : Parts} {total : ℕ} (p : Plan with_unknown v s tot
       let l = parts-length q.titled codes subs others in
       omega (arith, ap run_length q.whole, p.size)
 
-  pub planned-others : s.other_length ≡ run_length others
-  planned-others = others-sum p.read.known
+  -- There is room for the others.
+  pub record OthersRoom (at : ℕ) (d : List ℕ) : Type 0 where
+    pub size : s.other_length ≤ length (mid_of at (length d - at) d)
+    pub room : length (others_octets v) ≤ length (mid_of at (length d - at) d)
+
+  pub others_room : (out d : List ℕ) {q : List ℕ} (at : ℕ) → Begun out q d → at + run_length others ≤ length out → OthersRoom at d
+  others_room out d at b room =
+      let l = lent_length d at in
+      let o = ap length (done-octets v p.read.known.places p.read.known.walked) in
+      record {
+        size = omega (arith, others-sum p.read.known, b.same);
+        room = omega (arith, run_length_lem others, b.same);
+      }
 
   pub planned-done :
       (out d last : List ℕ) (at : ℕ)

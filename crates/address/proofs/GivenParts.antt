@@ -8,7 +8,7 @@ use native.Mathlib.Omega.{arith}
 use borrow.Author.Tests.{le-leb, lt-leb, leb-true}
 use borrow.Rule.Slice.PartMut.{mid_of, put_mid}
 use lib.Dec.{leb}
-use lib.ListN.{length, take, drop, length-drop}
+use lib.ListN.{length, take, drop, length-take, length-drop}
 use lib.Seq.{length-take-le}
 use Rattle.bcd.specs.Outcome.{Outcome, accepted, refused, pick, after, demand, mapped, each, Delivered, deliver}
 use Rattle.bcd.specs.Digits.{built_in, write_digits}
@@ -21,6 +21,7 @@ use Rattle.parameter.proofs.Encoding.{frame_known}
 use Rattle.parameter.proofs.InPlace.{framed-there}
 use Rattle.address.specs.Address.{Title, write_title, title, present, sub_param}
 use Rattle.address.specs.Records.{title_of, title_given, part_given}
+use Rattle.address.specs.Lengths.{title_length}
 use Rattle.address.specs.Steps.GivenParts.{given_title, given_param, title_room, Roomed}
 use Rattle.address.specs.declared.GlobalTitle.{GlobalTitle}
 use Rattle.address.proofs.Planning.{each_one, title_sized, title_few}
@@ -99,34 +100,29 @@ title_wrapped g = go (leb g.count 255)
     go true = refl
     go false = refl
 
--- The digits of a record, where there is a title.
-abbrev pub LongDigits : Option GlobalTitle → Type 0
-LongDigits None = Unit {0}
-LongDigits (Some g) = 255 ≤ length g.digits
-
 -- Where it can be written, it takes what its count tells.
-pub title_roomed : (o : Option GlobalTitle) → LongDigits o → (qs : List Param) → given_title o ≡ accepted qs → title_room o ≡ accepted (run_length qs)
+pub title_roomed : (o : Option GlobalTitle) → (qs : List Param) → given_title o ≡ accepted qs → title_room o ≡ accepted (run_length qs)
 unfolding run_length
-title_roomed (Some g) long qs e =
+title_roomed (Some g) qs e =
     let few = title_few_of g qs e in
     let (w, hw, one) = mapped_inv (λ v. param 0x8001 v ∷ []) (after (title_given g) (write_title built_in)) (sym (title_wrapped g) ∙ e) in
-    rw (le-leb g.count 255 few) (ap accepted (omega (arith, record_size g few long w hw, ap run_length one)))
-title_roomed None long qs e = ap (λ qs. accepted (run_length qs)) (accepted_inj e)
+    rw (le-leb g.count 255 few) (ap accepted (omega (arith, record_size g few w hw, ap run_length one)))
+title_roomed None qs e = ap (λ qs. accepted (run_length qs)) (accepted_inj e)
 
 -- Room for it.
-pub title_room_lem : (g : GlobalTitle) (out : List ℕ) → Roomed (title_room (Some g)) out → (g.count ≤ 255) × (padded_length (8 + (g.count + 1) / 2) ≤ length out)
+pub title_room_lem : (g : GlobalTitle) (out : List ℕ) → Roomed (title_room (Some g)) out → (g.count ≤ 255) × (padded_length (title_length (title_of g)) ≤ length out)
 title_room_lem g out y = go (leb g.count 255) refl y.known
   where
-    go : (t : Bool) → leb g.count 255 ≡ t → demand t 11 (g.count ∷ []) (accepted (padded_length (8 + (g.count + 1) / 2))) ≡ accepted y.takes → (g.count ≤ 255) × (padded_length (8 + (g.count + 1) / 2) ≤ length out)
+    go : (t : Bool) → leb g.count 255 ≡ t → demand t 11 (g.count ∷ []) (accepted (padded_length (title_length (title_of g)))) ≡ accepted y.takes → (g.count ≤ 255) × (padded_length (title_length (title_of g)) ≤ length out)
     go true h e = (leb-true g.count 255 h, omega (arith, accepted_inj e, y.room))
     go false h e = absurd (never e)
 
-module _ (g : GlobalTitle) (out : List ℕ) (few : g.count ≤ 255) (long : 255 ≤ length g.digits) (room : padded_length (8 + (g.count + 1) / 2) ≤ length out) where
+module _ (g : GlobalTitle) (out : List ℕ) (few : g.count ≤ 255) (room : padded_length (title_length (title_of g)) ≤ length out) where
   abbrev lent : List ℕ
   lent = mid_of 4 (length out - 4) out
 
   value_room : (w : List ℕ) → after (title_given g) (write_title built_in) ≡ accepted w → length w ≤ length lent
-  value_room w e = omega (arith, record_size g few long w e, lent_length out 4)
+  value_room w e = omega (arith, record_size g few w e, lent_length out 4)
 
   pub title_declined :
       (last : List ℕ) {n : ℕ} {vs : List ℕ}
@@ -143,10 +139,10 @@ module _ (g : GlobalTitle) (out : List ℕ) (few : g.count ≤ 255) (long : 255 
   pub title_counted_in :
       (n : ℕ) (last : List ℕ)
       → record { answer = accepted n; buffer = last } ≡ deliver (after (title_given g) (write_title built_in)) lent
-      → n ≡ 8 + (g.count + 1) / 2
+      → n ≡ title_length (title_of g)
   title_counted_in n last e =
       let (w, hw) = lent_accepted (after (title_given g) (write_title built_in)) lent e in
-      accepted_inj (deliver_answer w lent (value_room w hw) (e ∙ ap (λ (o : Outcome (List ℕ)). deliver o lent) hw)) ∙ record_size g few long w hw
+      accepted_inj (deliver_answer w lent (value_room w hw) (e ∙ ap (λ (o : Outcome (List ℕ)). deliver o lent) hw)) ∙ record_size g few w hw
 
   -- And framed.
   pub title_put :
@@ -157,7 +153,8 @@ module _ (g : GlobalTitle) (out : List ℕ) (few : g.count ≤ 255) (long : 255 
   unfolding run_octets
   title_put n last {q} {d} e frame =
       let (w, hw) = lent_accepted (after (title_given g) (write_title built_in)) lent e in
-      let l = record_size g few long w hw in
+      let l = record_size g few w hw in
+      let digits : length (take g.count g.digits) ≤ 255 = omega (arith, length-take g.count g.digits) in
       let m : n ≡ length w = title_counted_in n last e ∙ sym l in
       let held = deliver_buffer w lent (value_room w hw) (e ∙ ap (λ (o : Outcome (List ℕ)). deliver o lent) hw) in
       let same = frame ∙ ap (λ (i : ℕ). deliver (frame_param 0x8001 i (put_mid 4 (length out - 4) out last)) (put_mid 4 (length out - 4) out last)) m in

@@ -21,17 +21,17 @@ use Rattle.address.proofs.Planning.{mapped_refused}
 use Rattle.address.proofs.Copying.{lent_length}
 use Rattle.address.proofs.Lending.{lent_refused, lent_accepted, short-first, front_kept, front-written}
 use Rattle.address.proofs.Delivering.{Wrote, wrote}
-use Rattle.address.proofs.GivenParts.{LongDigits, title_roomed}
+use Rattle.address.proofs.GivenParts.{title_roomed}
 use Rattle.address.proofs.Encoding.{given_untitled, given_measured, Known, given-known}
 
 -- Its length where its digits are not looked at: what is refused then is refused, and what can be written has that length.
-module _ (tag : ℕ) (a : SuaAddress) (values : List ℕ) (t : Table) (long : LongDigits a.global_title) where
+module _ (tag : ℕ) (a : SuaAddress) (values : List ℕ) (t : Table) where
   abbrev written : Outcome (List ℕ)
   written = encode_address_as tag a values t
 
   room-titled : (ts : List Param) → given_title a.global_title ≡ accepted ts → room_for tag a values t ≡ mapped length written
   room-titled ts e =
-      ap (λ (o : Outcome ℕ). length_with tag o a values t) (title_roomed a.global_title long ts e ∙ sym (ap (mapped run_length) e))
+      ap (λ (o : Outcome ℕ). length_with tag o a values t) (title_roomed a.global_title ts e ∙ sym (ap (mapped run_length) e))
       ∙ sym (given_measured tag a values t)
 
   room-known : (w : List ℕ) → written ≡ accepted w → room_for tag a values t ≡ accepted (length w)
@@ -91,7 +91,7 @@ module _ (tag : ℕ) (a : SuaAddress) (values : List ℕ) (t : Table) (long : Lo
           let r = room_inv in
           let (bad, same) = lent_refused (mapped run_octets title) 4 (length out - 4) out put (λ w h.
           let (ts, ht, made) = mapped_inv run_octets title h in
-          let k = accepted_inj (sym (title_roomed a.global_title long ts ht) ∙ r.known) in
+          let k = accepted_inj (sym (title_roomed a.global_title ts ht) ∙ r.known) in
           omega (arith, ap length made, run_length_lem ts, r.fits, lent_length out 4)) in
           ap (λ (d : List ℕ). record { answer = refused n vs; buffer = d }) same
           ∙ deliver_refused n vs out

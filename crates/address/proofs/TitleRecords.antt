@@ -17,6 +17,7 @@ use Rattle.bcd.proofs.Writable.{write_inv}
 use Rattle.address.specs.Address.{Title, title_in, read_title, title_octets, write_title}
 use Rattle.address.specs.Records.{title_of, title_given, title_record}
 use Rattle.address.specs.Titles.{zeros, record_of}
+use Rattle.address.specs.Lengths.{title_length}
 use Rattle.address.specs.declared.GlobalTitle.{GlobalTitle}
 use Rattle.address.proofs.Planning.{whole_part}
 use Rattle.address.proofs.Copying.{lent_length}
@@ -57,67 +58,75 @@ module _ (v : List ℕ) where
 pub record_many : (g : GlobalTitle) (out : List ℕ) → 255 < g.count → record { answer = refused 11 (g.count ∷ []); buffer = out } ≡ deliver (after (title_given g) (write_title built_in)) out
 record_many g out h = rw (lt-leb g.count 255 h) (deliver_refused 11 (g.count ∷ []) out)
 
-module _ (g : GlobalTitle) (few : g.count ≤ 255) (long : 255 ≤ length g.digits) where
+module _ (g : GlobalTitle) (few : g.count ≤ 255) where
   abbrev cs : List ℕ
   cs = take g.count g.digits
-
-  taken : length cs ≡ g.count
-  taken = length-take-le g.count g.digits (omega arith)
 
   given : after (title_given g) (write_title built_in) ≡ mapped (title_octets (title_of g)) (write_digits built_in cs)
   unfolding write_title
   given = rw (le-leb g.count 255 few)
 
   -- How many octets there are, where the digits can be written.
-  digits-size : (os : List ℕ) → write_digits built_in cs ≡ accepted os → length os ≡ (g.count + 1) / 2
-  digits-size os e = omega (arith, taken, (write_inv built_in built_in_lawful cs (length os) (sym (ap (mapped length) e))).count)
+  digits-size : (os : List ℕ) → write_digits built_in cs ≡ accepted os → length os ≡ (length cs + 1) / 2
+  digits-size os e = omega (arith, (write_inv built_in built_in_lawful cs (length os) (sym (ap (mapped length) e))).count)
 
-  pub record_size : (w : List ℕ) → after (title_given g) (write_title built_in) ≡ accepted w → length w ≡ 8 + (g.count + 1) / 2
+  pub record_size : (w : List ℕ) → after (title_given g) (write_title built_in) ≡ accepted w → length w ≡ title_length (title_of g)
   record_size w e =
       let (os, ho, made) = mapped_inv (title_octets (title_of g)) (write_digits built_in cs) (sym given ∙ e) in
       omega (arith, digits-size os ho, ap length made)
 
+-- Its digits are those that the count tells.
+pub digits_taken : (g : GlobalTitle) → g.count ≤ length g.digits → length (take g.count g.digits) ≡ g.count
+digits_taken g h = length-take-le g.count g.digits h
+
+module _ (g : GlobalTitle) (few : g.count ≤ 255) (long : 255 ≤ length g.digits) where
+  taken : length (cs g few) ≡ g.count
+  taken = digits_taken g (omega arith)
+
+  size : (os : List ℕ) → write_digits built_in (cs g few) ≡ accepted os → length os ≡ (g.count + 1) / 2
+  size os e = omega (arith, taken, digits-size g few os e)
+
   module _ (out : List ℕ) where
     pub record_short :
         {answer : Outcome ℕ}
-        → answer ≡ after (mapped length (write_digits built_in cs)) (λ (n : ℕ). refused 14 ((8 + (g.count + 1) / 2) ∷ []))
+        → answer ≡ after (mapped length (write_digits built_in (cs g few))) (λ (n : ℕ). refused 14 ((8 + (g.count + 1) / 2) ∷ []))
         → length out < 8 + (g.count + 1) / 2
         → record { answer = answer; buffer = out } ≡ deliver (after (title_given g) (write_title built_in)) out
     record_short e h =
-        let os = write_digits built_in cs in
+        let os = write_digits built_in (cs g few) in
         let w = after (title_given g) (write_title built_in) in
         let short : Outcome ℕ = refused 14 ((8 + (g.count + 1) / 2) ∷ []) in
-        let same = refusal_same length os short ∙ sym (refusal_same (title_octets (title_of g)) os short) ∙ ap (λ (o : Outcome (List ℕ)). after o (λ (v : List ℕ). short)) (sym given) ∙ sym (refusal_same length w short) in
-        short-first w (8 + (g.count + 1) / 2) out (e ∙ same) record_size h
+        let same = refusal_same length os short ∙ sym (refusal_same (title_octets (title_of g)) os short) ∙ ap (λ (o : Outcome (List ℕ)). after o (λ (v : List ℕ). short)) (sym (given g few)) ∙ sym (refusal_same length w short) in
+        short-first w (8 + (g.count + 1) / 2) out (e ∙ same) (λ v k. omega (arith, taken, record_size g few v k)) h
 
     -- The digits are written first, and the rest in front of them.
     module _ (room : 8 + (g.count + 1) / 2 ≤ length out) where
       abbrev lent : List ℕ
       lent = mid_of 8 (length out - 8) out
 
-      digits-room : (os : List ℕ) → write_digits built_in cs ≡ accepted os → length os ≤ length lent
-      digits-room os e = omega (arith, digits-size os e, lent_length out 8)
+      digits-room : (os : List ℕ) → write_digits built_in (cs g few) ≡ accepted os → length os ≤ length lent
+      digits-room os e = omega (arith, size os e, lent_length out 8)
 
       pub record_refused :
           (last : List ℕ) {n : ℕ} {vs : List ℕ}
-          → record { answer = refused n vs; buffer = last } ≡ deliver (write_digits built_in cs) lent
+          → record { answer = refused n vs; buffer = last } ≡ deliver (write_digits built_in (cs g few)) lent
           → record { answer = refused n vs; buffer = put_mid 8 (length out - 8) out last } ≡ deliver (after (title_given g) (write_title built_in)) out
       record_refused last {n} {vs} e =
-          let (bad, same) = lent_refused (write_digits built_in cs) 8 (length out - 8) out e digits-room in
+          let (bad, same) = lent_refused (write_digits built_in (cs g few)) 8 (length out - 8) out e digits-room in
           ap (λ (d : List ℕ). record { answer = refused n vs; buffer = d }) same
           ∙ deliver_refused n vs out
-          ∙ ap (λ (o : Outcome (List ℕ)). deliver o out) (sym (given ∙ ap (mapped (title_octets (title_of g))) bad))
+          ∙ ap (λ (o : Outcome (List ℕ)). deliver o out) (sym (given g few ∙ ap (mapped (title_octets (title_of g))) bad))
 
       abbrev front : List ℕ
       front = 0 ∷ 0 ∷ 0 ∷ g.gti ∷ g.count ∷ g.translation_type ∷ g.numbering_plan ∷ g.nature_of_address ∷ []
 
       pub record_put :
           (n : ℕ) (last d : List ℕ)
-          → record { answer = accepted n; buffer = last } ≡ deliver (write_digits built_in cs) lent
+          → record { answer = accepted n; buffer = last } ≡ deliver (write_digits built_in (cs g few)) lent
           → d ≡ front ++ drop 8 (put_mid 8 (length out - 8) out last)
           → record { answer = accepted (8 + (g.count + 1) / 2); buffer = d } ≡ deliver (after (title_given g) (write_title built_in)) out
       record_put n last d e h =
-          let (os, w) = lent_accepted (write_digits built_in cs) lent e in
+          let (os, w) = lent_accepted (write_digits built_in (cs g few)) lent e in
           let fits = digits-room os w in
           let l = lent_length out 8 in
           let put = deliver_buffer os lent fits (e ∙ ap (λ (o : Outcome (List ℕ)). deliver o lent) w) in
@@ -125,9 +134,9 @@ module _ (g : GlobalTitle) (few : g.count ≤ 255) (long : 255 ≤ length g.digi
           let behind = extend os last 8 (length out - 8) (front_kept out 8 (omega arith)) eight (omega arith) (omega arith) put in
           let x = front-written (take 8 out) os front d 8 behind eight refl h in
           let same : front ++ os ≡ title_octets (title_of g) os = rw taken in
-          delivered (8 + (g.count + 1) / 2) x (omega (arith, digits-size os w))
+          delivered (8 + (g.count + 1) / 2) x (omega (arith, size os w))
           ∙ ap (λ w. deliver (accepted w) out) same
-          ∙ ap (λ (o : Outcome (List ℕ)). deliver o out) (sym (given ∙ ap (mapped (title_octets (title_of g))) w))
+          ∙ ap (λ (o : Outcome (List ℕ)). deliver o out) (sym (given g few ∙ ap (mapped (title_octets (title_of g))) w))
 
 -- The record of a title stands for that title.
 pub record_back : (t : Title) → title_of (record_of t) ≡ t

@@ -1,5 +1,5 @@
 // Addresses written from their records (address.rs; RFC 3868, 3.10.2).
-ghost use Rattle.std.specs.Prelude.{◌≡◌, ◌++◌, ◌≤◌, length, drop};
+ghost use Rattle.std.specs.Prelude.{◌≡◌, ◌++◌, ◌≤◌, length, drop, Some};
 ghost use Rattle.bcd.specs.Outcome.{accepted, mapped, delivered, deliver};
 ghost use Rattle.bcd.specs.Answers.{outcome_of};
 ghost use Rattle.parameter.specs.Parameter.{run_octets, run_length};
@@ -12,31 +12,49 @@ use bcd::error::Refusal;
 use parameter::table::Records;
 use parameter::tags::{GLOBAL_TITLE, POINT_CODE, SUBSYSTEM_NUMBER};
 
+impl GlobalTitle {
+    // What it takes on the wire, as a sub-parameter. 11, 9.
+    fn wire_length(&self) -> Result<usize, Refusal>
+        ensures { outcome_of result ≡ mapped run_length (given_title (Some self.now)) }
+    {
+        let count = self.count;
+        if 255 < count {
+            return Err(Refusal::TooManyDigits(count));
+        }
+        let octets = bcd::gt_digits_length(&self.digits[..count])?;
+        Ok((12 + octets).next_multiple_of(4))
+    }
+
+    // What it takes on the wire if its digits can be written, which is not looked at. 11.
+    fn room(&self) -> Result<usize, Refusal>
+        ensures { outcome_of result ≡ title_room (Some self.now) }
+    {
+        let count = self.count;
+        if 255 < count {
+            return Err(Refusal::TooManyDigits(count));
+        }
+        Ok((12 + count.div_ceil(2)).next_multiple_of(4))
+    }
+}
+
 // What the title takes on the wire, if it is there. 11, 9.
 fn title_length(title: &Option<GlobalTitle>) -> Result<usize, Refusal>
     ensures { outcome_of result ≡ mapped run_length (given_title title.now) }
 {
-    let Some(gt) = title else {
-        return Ok(0);
-    };
-    if 255 < gt.count {
-        return Err(Refusal::TooManyDigits(gt.count));
+    match title {
+        None => Ok(0),
+        Some(gt) => gt.wire_length(),
     }
-    let octets = bcd::gt_digits_length(&gt.digits[..gt.count])?;
-    Ok((12 + octets).next_multiple_of(4))
 }
 
 // What the title takes on the wire, if it is there and its digits can be written, which is not looked at. 11.
 fn title_room(title: &Option<GlobalTitle>) -> Result<usize, Refusal>
     ensures { outcome_of result ≡ title_room title.now }
 {
-    let Some(gt) = title else {
-        return Ok(0);
-    };
-    if 255 < gt.count {
-        return Err(Refusal::TooManyDigits(gt.count));
+    match title {
+        None => Ok(0),
+        Some(gt) => gt.room(),
     }
-    Ok((12 + gt.count.div_ceil(2)).next_multiple_of(4))
 }
 
 // How many octets an address value has, with what its title takes. 15, the title's refusal, 10 for each other, 10 for the whole,
@@ -53,8 +71,11 @@ fn length_with(
     if others.outside(address.other_count) {
         return Err(Refusal::OutsideSlice);
     }
-    let front = 4 + title? + four_length(address.point_code.is_some()) + four_length(address.ssn.is_some());
-    let length = front.saturating_add(others.parameters_length(address.other_count)?);
+    let front =
+        4 + four_length(address.point_code.is_some()) + four_length(address.ssn.is_some());
+    let length = front
+        .saturating_add(title?)
+        .saturating_add(others.parameters_length(address.other_count)?);
     if 65531 < length {
         return Err(Refusal::ValueTooLong { tag, length });
     }

@@ -1,12 +1,13 @@
 -- The parts that are written of an address that is given by its record.
-use Rattle.std.specs.Prelude.{List, [], ◌∷◌, ◌++◌, ℕ, ◌+◌, ◌/◌, ◌≤◌, ◌≡◌, length, leb}
+use Rattle.std.specs.Prelude.{List, [], ◌∷◌, ◌++◌, ℕ, ◌+◌, ◌≤◌, ◌≡◌, length, leb}
 use Rattle.std.specs.Prelude.{Option, None, Some, is_some}
 use Rattle.bcd.specs.Outcome.{Outcome, accepted, pick, after, demand, each, fit64}
 use Rattle.bcd.specs.Digits.{built_in}
 use Rattle.parameter.specs.Parameter.{Param, param, two, padded_length, most_value, encode_param}
 use Rattle.parameter.specs.Table.{Table, records}
 use Rattle.address.specs.Address.{title, indicator, sub_param}
-use Rattle.address.specs.Records.{routing_value, title_given, address_of}
+use Rattle.address.specs.Records.{routing_value, title_of, title_given, address_of}
+use Rattle.address.specs.Lengths.{title_length}
 use Rattle.address.specs.declared.GlobalTitle.{GlobalTitle}
 use Rattle.address.specs.declared.SuaAddress.{SuaAddress}
 
@@ -24,11 +25,11 @@ given_param tag (Some v) = param tag v ∷ []
 abbrev pub given_head : SuaAddress → List ℕ
 given_head a = two (routing_value a.routing_indicator) ++ two (indicator (address_of a []))
 
--- What a title takes on the wire, if it is there: eight octets, and two digits to an octet, as a sub-parameter
--- (RFC 3868, 3.10.2.3). 11 (document 01, 'Refused because of the input').
+-- What a title takes on the wire, if it is there and its digits can be written (RFC 3868, 3.10.2.3). 11 (document 01, 'Refused
+-- because of the input').
 abbrev pub title_room : Option GlobalTitle → Outcome ℕ
 title_room None = accepted 0
-title_room (Some g) = demand (leb g.count 255) 11 (g.count ∷ []) (accepted (padded_length (8 + (g.count + 1) / 2)))
+title_room (Some g) = demand (leb g.count 255) 11 (g.count ∷ []) (accepted (padded_length (title_length (title_of g))))
 
 -- There is room for so many octets.
 pub record Roomed (o : Outcome ℕ) (out : List ℕ) : Type 0 where

@@ -49,6 +49,7 @@ impl<'a> Iterator for Reader<'a> {
     type Item = Result<Place, Refusal>;
 
     ghost next_gives = { λ r item s. Gives r item s };
+
     ghost remaining = { λ r. at_most (ahead r) };
 
     fn next(&mut self) -> Option<Result<Place, Refusal>> {

@@ -21,7 +21,7 @@ returns-then-n-row c =
     let values = c.args.lent.values.now in
     let p = get_or c.in-Some.rows.now c.loop-row.row-index nowhere in
     let far : length values < p.start + p.length = elim c.then-n-row.branch [
-      then-n-row-via-then-n-row w ↦ omega (arith, w.if-n-row.true)
+      | then-n-row-via-then-n-row w ↦ omega (arith, w.if-n-row.true)
       | then-n-row-via-else-n-row+then-n-row-2 w ↦ omega (arith, w.if-n-row.false, w.if-n-row-2.true)
     ] in
     let ((low, few, range, long), any) = c.in-Some.ensures.lookup in
@@ -34,7 +34,7 @@ loop-row-preserved c =
     let p = get_or rows i nowhere in
     let more : take (i + 1) rows ≡ take i rows ++ (p ∷ []) = rw add-one (take-suc rows i nowhere c.loop-row-test.true) in
     let now : c.match-place_of.first ≡ kept (place_among wanted p.tag) p c.loop-row.first = elim c.match-place_of.branch [
-      in-Some-place_of w ↦ w.first-is ∙ ap (set c.loop-row.first w.in-Some-place_of.place) w.or.ensures
+      | in-Some-place_of w ↦ w.first-is ∙ ap (set c.loop-row.first w.in-Some-place_of.place) w.or.ensures
           ∙ ap (λ o. kept o p c.loop-row.first) w.in-Some-place_of.ensures
       | in_default-place_of w ↦ w.first-is ∙ ap (λ o. kept o p c.loop-row.first) w.in_default-place_of.ensures
     ] in

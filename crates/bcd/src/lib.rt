@@ -113,7 +113,7 @@ pub fn encode_gt_digits(digits: &[u8], out: &mut [u8]) -> Result<usize, Refusal>
     if out.len() < n {
         return Err(Refusal::OutputTooSmall(n));
     }
-    octets::copy(&packed[..n], out);
+    out[..n].copy_from_slice(&packed[..n]);
     Ok(n)
 }
 

@@ -206,7 +206,7 @@ pub(crate) fn put(tag: u16, value: &[u8], out: &mut [u8])
     ensures { out.new
         ≡ param_octets (param tag value.now) ++ drop (padded_length (length value.now)) out.old }
 {
-    octets::copy(value, &mut out[4..]);
+    out[4..4 + value.len()].copy_from_slice(value);
     surround(tag, value.len(), out);
 }
 

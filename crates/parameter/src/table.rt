@@ -115,7 +115,7 @@ impl<'a> Records<'a> {
     {
         let mut at: usize = 0;
         for &row in &self.rows[..count] {
-            put(row.tag, row.value(self.values), &mut out[at..]);
+            put(row.tag, &self.values[row.start..row.start + row.length], &mut out[at..]);
             at += (row.length + 7) / 4 * 4;
         }
     }

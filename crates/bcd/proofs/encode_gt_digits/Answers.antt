@@ -1,6 +1,7 @@
 -- `bcd::encode_gt_digits` meets its contract: what was packed is the definition's, and is copied where it fits.
 use Prim.Native.Nat.{ℕ, ◌≤◌}
-use mathlib.Core.Path.{◌≡◌, ap, ◌∙◌}
+use borrow.Author.Rules.{rules}
+use mathlib.Core.Path.{◌≡◌, sym, ap, ap₂, ◌∙◌}
 use mathlib.Core.List.{List, ◌++◌}
 use native.Mathlib.Omega.{arith}
 use lib.ListN.{length, take, drop}
@@ -33,4 +34,7 @@ pub returns-then-out-n : goal.returns-then-out-n
 returns-then-out-n c = deliver_too_long (write_digits built_in c.args.digits.now) _ c.args.out.now c.in_ok-n.ensures.counted c.if-out-n.true
 
 pub returns : goal.returns
-returns c = copied c.args.out.now c.in_ok-n.ensures c.if-out-n.false (c.copy.ensures.whole (omega (arith, packed_count c.in_ok-n.ensures)))
+returns c =
+    let front : c.copy_from_slice.new.self ≡ take c.in_ok-n.n c.pack_digits.new.packed = search rules in
+    let size = packed_count c.in_ok-n.ensures in
+    copied c.args.out.now c.in_ok-n.ensures c.if-out-n.false (ap₂ (λ (os : List ℕ) (k : ℕ). os ++ drop k c.args.out.now) front (sym size))

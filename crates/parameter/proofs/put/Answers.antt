@@ -1,13 +1,10 @@
 -- `parameter::put` meets its contract.
-use Prim.Native.Nat.{◌-◌}
-use native.Mathlib.Omega.{arith}
-use lib.ListN.{length, drop, length-take, length-drop}
+use borrow.Author.Rules.{rules}
+use mathlib.Core.Path.{◌≡◌}
 use Rattle.parameter.proofs.InPlace.{surrounded}
 use Rattle.parameter.proofs.put.Goals as goal
 
 pub returns : goal.returns
-returns c = let v = c.args.value.now in
-    let out = c.args.out.now in
-    surrounded c.args.tag v out _ _ c.requires.value_in_bounds
-    (c.copy.ensures.whole (omega (arith, c.requires.value_in_bounds, length-take (length out - 4) (drop 4 out), length-drop 4 out)))
-    c.surround.ensures
+returns c =
+    let value : c.copy_from_slice.new.self ≡ c.args.value.now = search rules in
+    surrounded c.args.tag c.args.value.now c.args.out.now _ _ c.requires.value_in_bounds value c.surround.ensures

@@ -3,8 +3,8 @@ use mathlib.Core.Path.{◌≡◌, sym, ap, ◌∙◌}
 use Prim.Native.Nat.{◌-◌, ◌<◌}
 use native.Mathlib.Omega.{arith}
 use lib.ListN.{length, get_or, take, drop, length-take, length-drop}
-use Rattle.parameter.proofs.Records.{nowhere, held_rows, held-length, value-length}
-use Rattle.parameter.proofs.Running.{ready, running_start, running_turn, running_next, running_all}
+use Rattle.parameter.proofs.Records.{nowhere, held_rows, held-length}
+use Rattle.parameter.proofs.Running.{ready, running_start, running_turn, running_next, running_all, part_of, part_length}
 use Rattle.parameter.proofs.table.Records.write_run.Goals as goal
 
 pub slice_bounds-row-items-end : goal.slice_bounds-row-items-end
@@ -22,7 +22,7 @@ put-requires c =
     let h : i < c.args.count = omega (arith, held_rows y.held, c.loop-row-test.true) in
     let t = running_turn y c.loop-row.invariant.1 c.requires.total_in_bounds h in
     let row = get_or (take c.args.count c.args.self.rows.now) i nowhere in
-    let l : length c.value.result.now ≡ row.length = ap length c.value.ensures ∙ value-length c.args.self.values.now row t.inside in
+    let l = part_length row.start row.length c.args.self.values.now t.inside in
     let o = length-take (length c.loop-row.out - c.loop-row.at) (drop c.loop-row.at c.loop-row.out) in
     let d = length-drop c.loop-row.at c.loop-row.out in
     record { value_len_bound = omega (arith, l, t.small); value_in_bounds = omega (arith, l, o, d, t.room) }
@@ -40,7 +40,8 @@ loop-row-preserved c =
     let y = c.loop-row.invariant.0 in
     let i = c.loop-row.row-index in
     let h : i < c.args.count = omega (arith, held_rows y.held, c.loop-row-test.true) in
-    (y, running_next y c.loop-row.invariant.1 c.requires.total_in_bounds h _ _ _ c.value.ensures (omega arith) c.put.ensures)
+    let row = get_or (take c.args.count c.args.self.rows.now) i nowhere in
+    (y, running_next y c.loop-row.invariant.1 c.requires.total_in_bounds h _ _ _ (part_of row.start row.length c.args.self.values.now) (omega arith) c.put.ensures)
 
 pub returns : goal.returns
 returns c =

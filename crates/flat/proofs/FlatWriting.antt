@@ -1,11 +1,10 @@
 -- The second pass over a flat list: its parameters are written, as far as they have been walked.
 use Prim.Native.Nat.{ℕ, ◌+◌, ◌-◌, ◌≤◌, ◌<◌}
-use mathlib.Core.Path.{◌≡◌, refl, sym, ap, ◌∙◌}
+use mathlib.Core.Path.{◌≡◌, refl, sym, ap, ◌∙◌, subst}
 use mathlib.Core.List.{List, [], ◌∷◌, ◌++◌, map, map-append, append-nil}
 use native.Mathlib.Omega.{arith}
 use lib.Dec.{leb}
 use lib.ListN.{length, drop, length-append, length-take, length-drop}
-use lib.Seq.{drop-length}
 use borrow.Author.Tests.{leb-true}
 use borrow.Rule.Slice.PartMut.{mid_of, put_mid}
 use Rattle.bcd.specs.Outcome.{Outcome, accepted, refused, after, mapped, each, delivered, deliver}
@@ -16,26 +15,29 @@ use Rattle.parameter.specs.Parameter.{Param, padded_length, param_octets, most_v
 use Rattle.parameter.specs.Walk.{ended, found, valued}
 use Rattle.parameter.proofs.RoundTrip.{octets-length}
 use Rattle.parameter.proofs.Encoding.{encode_within}
+use Rattle.flat.specs.Steps.Entries.{ListFits}
 use Rattle.flat.specs.Flat.{flat_step, flat_steps, flat_list}
-use Rattle.form.proofs.Passes.{valued-length}
+use Rattle.parameter.proofs.Records.{value-length}
 use Rattle.flat.proofs.FlatList.{flat_inside, Walking, walking_start, walking_found, walking_next, walking_end, walking_refused, flat_walked, flat_refused}
 
--- the parameters of the list are known, and take `total` octets
-pub record Known (xs : List ℕ) (total : ℕ) : Type 0 where
+-- the parameters of the list are known, and fit in so many places
+pub record Known (xs : List ℕ) (room : ℕ) : Type 0 where
   pub walked : List Place
   pub places : flat_steps (length xs) xs 0 ≡ accepted walked
   pub octets : List ℕ
   pub encodes : each encode_param (map (valued xs) walked) ≡ accepted octets
-  pub size : length octets ≡ total
+  pub size : length octets ≤ room
 
-pub known : (xs : List ℕ) (total : ℕ) → accepted total ≡ mapped length (after (flat_list xs) (each encode_param)) → Known xs total
-known xs total e = go (flat_steps (length xs) xs 0) refl
+pub known : (xs : List ℕ) (room : ℕ) → ListFits (after (flat_list xs) (each encode_param)) room → Known xs room
+known xs room h = go (flat_steps (length xs) xs 0) refl
   where
-    go : (o : Outcome (List Place)) → flat_steps (length xs) xs 0 ≡ o → Known xs total
-    go (refused n vs) w = absurd (never (sym (e ∙ ap (λ o. mapped length (after o (each encode_param))) (flat_refused xs n vs w))))
-    go (accepted ps) w =
-        let (os, q, l) = mapped_inv length (each encode_param (map (valued xs) ps)) (sym (e ∙ ap (λ o. mapped length (after o (each encode_param))) (flat_walked xs ps w))) in
-        record { walked = ps; places = w; octets = os; encodes = q; size = l }
+    inner : (ps : List Place) (o : Outcome (List ℕ)) → flat_steps (length xs) xs 0 ≡ accepted ps → each encode_param (map (valued xs) ps) ≡ o → ListFits o room → Known xs room
+    inner ps (refused n vs) w e f = absurd f
+    inner ps (accepted os) w e f = record { walked = ps; places = w; octets = os; encodes = e; size = f }
+
+    go : (o : Outcome (List Place)) → flat_steps (length xs) xs 0 ≡ o → Known xs room
+    go (refused n vs) w = absurd (subst (λ o. ListFits (after o (each encode_param)) room) (flat_refused xs n vs w) h)
+    go (accepted ps) w = inner ps (each encode_param (map (valued xs) ps)) w refl (subst (λ o. ListFits (after o (each encode_param)) room) (flat_walked xs ps w) h)
 
 pub record Written (xs out d : List ℕ) (from at : ℕ) : Type 0 where
   pub walking : Walking xs from
@@ -61,19 +63,15 @@ pub record Turn (xs : List ℕ) (q : Place) (at total : ℕ) : Type 0 where
   pub small : q.length ≤ most_value
   pub room : at + padded_length q.length ≤ total
 
-module _ {xs out d : List ℕ} {from at total : ℕ} (k : Known xs total) (p : Written xs out d from at) where
+module _ {xs out d : List ℕ} {from at room : ℕ} (k : Known xs room) (p : Written xs out d from at) where
   pub written_never : (m : ℕ) (vs : List ℕ) → refused m vs ≡ flat_step xs from → ⊥
   written_never m vs e = never (sym (walking_refused p.walking m vs e) ∙ k.places)
 
   -- all parameters are written
-  pub written_all : accepted ended ≡ flat_step xs from → total ≡ length out → accepted d ≡ after (flat_list xs) (each encode_param)
-  written_all e l =
-      let done = walking_end p.walking e in
-      let same : p.walking.done ≡ k.walked = accepted_inj (sym done ∙ k.places) in
-      let os : p.octets ≡ k.octets = accepted_inj (sym p.so_far ∙ ap (λ ps. each encode_param (map (valued xs) ps)) same ∙ k.encodes) in
-      let size : length p.octets ≡ length out = ap length os ∙ k.size ∙ l in
-      let whole : d ≡ p.octets = p.begun.holds ∙ rw (size, drop-length) (append-nil p.octets) in
-      ap accepted whole ∙ sym p.so_far ∙ sym (ap (λ o. after o (each encode_param)) (flat_walked xs p.walking.done done))
+  pub written_all : accepted ended ≡ flat_step xs from → delivered (accepted at) d ≡ deliver (after (flat_list xs) (each encode_param)) out
+  written_all e =
+      Rattle.bcd.proofs.Writing.delivered at p.begun p.place
+      ∙ ap (λ o. deliver o out) (sym p.so_far ∙ sym (ap (λ o. after o (each encode_param)) (flat_walked xs p.walking.done (walking_end p.walking e))))
 
   module _ (q : Place) (next : ℕ) (e : accepted (found q next) ≡ flat_step xs from) where
     -- what is left of the places behind the one that a step finds
@@ -87,7 +85,7 @@ module _ {xs out d : List ℕ} {from at total : ℕ} (k : Known xs total) (p : W
         go (accepted rest) w = (rest, accepted_inj (here ∙ ap (λ o. mapped (λ qs. p.walking.done ++ qs) (mapped (λ ps. q ∷ ps) o)) w))
         go (refused m vs) w = absurd (never (sym (here ∙ ap (λ o. mapped (λ qs. p.walking.done ++ qs) (mapped (λ ps. q ∷ ps) o)) w)))
 
-    pub written_turn : Turn xs q at total
+    pub written_turn : Turn xs q at room
     written_turn =
         let (rest, w) = after-found in
         let done = map (valued xs) p.walking.done in
@@ -97,7 +95,7 @@ module _ {xs out d : List ℕ} {from at total : ℕ} (k : Known xs total) (p : W
         let (qs, ts, hq, ht, i) = each_inv encode_param (valued xs q) (map (valued xs) rest) vs hv in
         let (small, same) = encoded_small (valued xs q) qs hq in
         let inside = flat_inside xs from e in
-        let l = valued-length xs q (omega (arith, inside.ends, inside.within)) in
+        let l = value-length xs q (omega (arith, inside.ends, inside.within)) in
         let a : length us ≡ at = ap length (accepted_inj (sym hu ∙ p.so_far)) ∙ p.place in
         let b : length qs ≡ padded_length q.length = ap length (sym same) ∙ octets-length (valued xs q) ∙ ap padded_length l in
         let c = length-append us vs in
@@ -107,7 +105,7 @@ module _ {xs out d : List ℕ} {from at total : ℕ} (k : Known xs total) (p : W
         record { value = l; small = omega arith; room = omega (arith, k.size) }
 
     -- the parameter is written into the rest of the output
-    module _ (fits : total ≤ length out) {o : Outcome ℕ} {last : List ℕ} (w : delivered o last ≡ deliver (encode_param (valued xs q)) (mid_of at (length d - at) d)) where
+    module _ (fits : room ≤ length out) {o : Outcome ℕ} {last : List ℕ} (w : delivered o last ≡ deliver (encode_param (valued xs q)) (mid_of at (length d - at) d)) where
       lent : length (mid_of at (length d - at) d) ≡ length d - at
       lent = rw (length-take (length d - at) (drop at d), length-drop at d) (omega arith)
 
@@ -115,15 +113,15 @@ module _ {xs out d : List ℕ} {from at total : ℕ} (k : Known xs total) (p : W
       wire = let t = written_turn in
           w ∙ ap (λ o. deliver o (mid_of at (length d - at) d)) (encode_within (valued xs q) (omega (arith, t.value, t.small)))
 
-      room : length (param_octets (valued xs q)) ≤ length (mid_of at (length d - at) d)
-      room = let t = written_turn in omega (arith, lent, octets-length (valued xs q), ap padded_length t.value, t.room, p.begun.same)
+      wide : length (param_octets (valued xs q)) ≤ length (mid_of at (length d - at) d)
+      wide = let t = written_turn in omega (arith, lent, octets-length (valued xs q), ap padded_length t.value, t.room, p.begun.same)
 
       pub written-size : o ≡ accepted (padded_length q.length)
       written-size = let t = written_turn in
-          deliver_answer (param_octets (valued xs q)) (mid_of at (length d - at) d) room wire ∙ ap accepted (octets-length (valued xs q) ∙ ap padded_length t.value)
+          deliver_answer (param_octets (valued xs q)) (mid_of at (length d - at) d) wide wire ∙ ap accepted (octets-length (valued xs q) ∙ ap padded_length t.value)
 
     pub written_more :
-        (fits : total ≤ length out) {r : ℕ} {last : List ℕ}
+        (fits : room ≤ length out) {r : ℕ} {last : List ℕ}
         → delivered (accepted r) last ≡ deliver (encode_param (valued xs q)) (mid_of at (length d - at) d)
         → Written xs out (put_mid at (length d - at) d last) next (at + r)
     written_more fits {r} {last} w =
@@ -141,7 +139,7 @@ module _ {xs out d : List ℕ} {from at total : ℕ} (k : Known xs total) (p : W
               ∙ each_append encode_param (map (valued xs) p.walking.done) (v ∷ []) p.octets (param_octets v) p.so_far (one v (encode_within v small));
           begun =
               extend (param_octets v) last at (length d - at) p.begun p.place (omega (arith, p.begun.same)) (omega (arith, p.begun.same, t.room, l, lv))
-              (deliver_buffer (param_octets v) (mid_of at (length d - at) d) (room fits w) (wire fits w));
+              (deliver_buffer (param_octets v) (mid_of at (length d - at) d) (wide fits w) (wire fits w));
           place = length-append p.octets (param_octets v) ∙ omega (arith, p.place, l, lv, size);
         }
       where

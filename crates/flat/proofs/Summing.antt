@@ -14,7 +14,8 @@ use Rattle.parameter.specs.Walk.{ended, found, valued}
 use Rattle.parameter.proofs.Encoding.{encode_within, encode_beyond}
 use Rattle.parameter.proofs.RoundTrip.{octets-length}
 use Rattle.flat.specs.Flat.{flat_step, flat_list}
-use Rattle.form.proofs.Passes.{each_last, valued-length}
+use Rattle.form.proofs.Passes.{each_last}
+use Rattle.parameter.proofs.Records.{value-length}
 use Rattle.flat.proofs.FlatList.{flat_inside, Walking, walking_start, walking_next, walking_end, walking_refused, flat_walked, flat_refused}
 
 -- how many octets, or the largest number of 64 bits
@@ -68,7 +69,7 @@ module _ {xs : List ℕ} {at : ℕ} {sum : Outcome ℕ} (s : Summed xs at sum) w
       → Summed xs next more
   summed_more p next more e k =
       let i = flat_inside xs at e in
-      let l = valued-length xs p (omega (arith, i.ends, i.within)) in
+      let l = value-length xs p (omega (arith, i.ends, i.within)) in
       let ps = map (valued xs) s.walked.done in
       record {
         walked = walking_next s.walked p next e;

@@ -8,7 +8,7 @@ ghost use Rattle.parameter.specs.Parameter.{encode_param, wire_length};
 ghost use Rattle.message.specs.Message.{message, write_message};
 ghost use Rattle.flat.specs.Flat.{flat_step, flat_list, encode_flat};
 ghost use Rattle.parameter.specs.Items.{Left};
-ghost use Rattle.flat.specs.Steps.Entries.{entry_of, Gives};
+ghost use Rattle.flat.specs.Steps.Entries.{entry_of, Gives, ListFits};
 
 use bcd::error::Refusal;
 use message::header::CommonHeader;
@@ -98,17 +98,18 @@ fn list_length(list: &[u8]) -> Result<usize, Refusal>
     sum
 }
 
-// Writes the parameters of a flat list, which take the whole slice.
-fn write_list(list: &[u8], out: &mut [u8]) -> Result<(), Refusal>
-    requires { accepted (length out.old) ≡ mapped length (after (flat_list list.now) (each encode_param)) }
-    ensures { mapped (λ _. out.new) (outcome_of result) ≡ after (flat_list list.now) (each encode_param) }
+// Writes the parameters of a flat list, for which there is room.
+fn write_list(list: &[u8], out: &mut [u8]) -> Result<usize, Refusal>
+    requires { ListFits (after (flat_list list.now) (each encode_param)) (length out.old) }
+    ensures { delivered (outcome_of result) out.new
+        ≡ deliver (after (flat_list list.now) (each encode_param)) out.old }
 {
     let mut at = 0;
     for place in FlatList::new(list) {
         let place = place?;
         at += parameter::encode(place.tag, place.value(list), &mut out[at..])?;
     }
-    Ok(())
+    Ok(at)
 }
 
 // Writes the message of a type and a flat list. 15, 10 in order, 12, 14.
@@ -116,7 +117,8 @@ fn encode_typed(message_type: MessageType, list: &[u8], out: &mut [u8]) -> Resul
     ensures { delivered (outcome_of result) out.new
         ≡ deliver (after (flat_list list.now) (λ ps. write_message (message message_type ps))) out.old }
 {
-    let total = list_length(list)?.saturating_add(CommonHeader::SIZE);
+    let run = list_length(list)?;
+    let total = CommonHeader::SIZE.saturating_add(run);
     if 1048576 < total {
         return Err(Refusal::TooManyOctets(total));
     }
@@ -124,11 +126,12 @@ fn encode_typed(message_type: MessageType, list: &[u8], out: &mut [u8]) -> Resul
         return Err(Refusal::OutputTooSmall(total));
     }
     CommonHeader::new(message_type, total as u32).encode(out)?;
-    write_list(list, &mut out[CommonHeader::SIZE..total])?;
+    write_list(list, &mut out[CommonHeader::SIZE..])?;
     Ok(total)
 }
 
 // Writes the message of a class, a type and a flat list. 4, 15, 10 in order, 12 (the message's), 14.
+#[tactic(auto, unfolding(bcd::specs::Outcome::deliver, crate::specs::Flat::encode_flat))]
 pub fn encode(class: u8, msg_type: u8, list: &[u8], out: &mut [u8]) -> Result<usize, Refusal>
     ensures { delivered (outcome_of result) out.new
         ≡ deliver (encode_flat class msg_type list.now) out.old }

@@ -1,6 +1,6 @@
 -- What a walk over a flat list gives, record by record.
-use Rattle.std.specs.Prelude.{ℕ, ◌+◌, ◌≡◌, List, length, Option, None, Some, Result, Ok, Err}
-use Rattle.bcd.specs.Outcome.{Outcome, accepted}
+use Rattle.std.specs.Prelude.{ℕ, ◌+◌, ◌≤◌, ◌≡◌, List, length, Option, None, Some, Result, Ok, Err}
+use Rattle.bcd.specs.Outcome.{Outcome, accepted, refused}
 use Rattle.bcd.specs.Answers.{refusal_of}
 use Rattle.bcd.specs.declared.error.Refusal.{Refusal}
 use Rattle.parameter.specs.declared.Place.{Place}
@@ -18,3 +18,8 @@ abbrev pub Gives : (xs : List ℕ) (at : ℕ) → Option (Result Place Refusal) 
 Gives xs at None left next = (left ≡ xs) × (accepted ended ≡ flat_step xs at)
 Gives xs at (Some (Ok p)) left next = (left ≡ xs) × (accepted (found p next) ≡ flat_step xs at)
 Gives xs at (Some (Err r)) left next = (length left ≡ 0) × (refusal_of r ≡ flat_step xs at)
+
+-- Octets that are known, and fit in so many places.
+abbrev pub ListFits : Outcome (List ℕ) → (room : ℕ) → Type 0
+ListFits (accepted os) room = length os ≤ room
+ListFits (refused n vs) room = ⊥

@@ -24,15 +24,15 @@ use Rattle.message.specs.Constructors.{written, cldt, cldr}
 use Rattle.message.specs.Steps.Parts.{made}
 use Rattle.message.proofs.Listing.{written-framed}
 
--- Parts that are parameters.
-abbrev pub Are : List (Option Part) → List Param → Type 0
-Are parts ps = run_written parts ≡ each encode_param ps
+-- Parts that are parameters, and a part that is parameters.
+pub record Are (parts : List (Option Part)) (ps : List Param) : Type 0 where
+  pub run : run_written parts ≡ each encode_param ps
 
-abbrev pub Is : Option Part → List Param → Type 0
-Is part ps = given_written part ≡ each encode_param ps
+pub record Is (part : Option Part) (ps : List Param) : Type 0 where
+  pub one : given_written part ≡ each encode_param ps
 
-made_written : (m : MessageType) (parts : List (Option Part)) (ps : List Param) → Are parts ps → made m parts ≡ written m ps
-made_written m parts ps e = ap (λ (o : Outcome (List ℕ)). after o (λ os. writable (framed m os))) e ∙ sym (written-framed m (accepted ps))
+made_written : (m : MessageType) {parts : List (Option Part)} {ps : List Param} → Are parts ps → made m parts ≡ written m ps
+made_written m {parts} {ps} e = ap (λ (o : Outcome (List ℕ)). after o (λ os. writable (framed m os))) e.run ∙ sym (written-framed m (accepted ps))
 
 -- One behind the other.
 each_joined :
@@ -58,40 +58,49 @@ alone : (o : Outcome (List ℕ)) → after o (λ us. mapped (λ vs. us ++ vs) (a
 alone (accepted us) = ap accepted (append-nil us)
 alone (refused n vs) = refl
 
-pub joined : (part : Option Part) (parts : List (Option Part)) (xs ys : List Param) → Is part xs → Are parts ys → Are (part ∷ parts) (xs ++ ys)
-joined part parts xs ys e f = rw (e, f) (sym (each_joined xs ys))
+pub joined : {part : Option Part} {parts : List (Option Part)} {xs ys : List Param} → Is part xs → Are parts ys → Are (part ∷ parts) (xs ++ ys)
+joined {part} {parts} {xs} {ys} e f = record { run = rw (e.one, f.run) (sym (each_joined xs ys)) }
 
-pub last : (part : Option Part) (xs : List Param) → Is part xs → Are (part ∷ []) xs
-last part xs e = alone (given_written part) ∙ e
+pub last : {part : Option Part} {xs : List Param} → Is part xs → Are (part ∷ []) xs
+last {part} {xs} e = record { run = alone (given_written part) ∙ e.one }
 
 -- Each kind of part.
-pub one : (p : Param) → encode_param p ≡ each encode_param (p ∷ [])
-one p = sym (alone (encode_param p))
+one_param : (p : Param) → encode_param p ≡ each encode_param (p ∷ [])
+one_param p = sym (alone (encode_param p))
 
-pub number_is : (tag : ℕ) (n : Option ℕ) {part : Option Part} → part ≡ option_map (P.Number tag) n → Is part (given (number tag) n)
-number_is tag n e = ap given_written e ∙ go n
-  where
-    go : (n : Option ℕ) → Is (option_map (P.Number tag) n) (given (number tag) n)
-    go None = refl
-    go (Some n) = one (number tag n)
+pub number_is : (tag n : ℕ) → Is (Some (P.Number tag n)) (number tag n ∷ [])
+number_is tag n = record { one = one_param (number tag n) }
 
-pub octet_is : (tag : ℕ) (n : Option ℕ) {part : Option Part} → part ≡ option_map (P.Octet tag) n → Is part (given (octet tag) n)
-octet_is tag n e = ap given_written e ∙ go n
-  where
-    go : (n : Option ℕ) → Is (option_map (P.Octet tag) n) (given (octet tag) n)
-    go None = refl
-    go (Some n) = one (octet tag n)
+pub codes-are : (codes : Bor (List ℕ)) → Is (Some (P.Codes codes)) (affected codes.now ∷ [])
+codes-are codes = record { one = one_param (affected codes.now) }
 
-pub octets-are : (tag : ℕ) (o : Option (Bor (List ℕ))) {part : Option Part} → part ≡ option_map (P.Octets tag) o → Is part (given (param tag) (option_copied o))
-octets-are tag o e = ap given_written e ∙ go o
+pub octets-are : (tag : ℕ) (octets : Bor (List ℕ)) → Is (Some (P.Octets tag octets)) (param tag octets.now ∷ [])
+octets-are tag octets = record { one = one_param (param tag octets.now) }
+
+pub number_given : (tag : ℕ) (n : Option ℕ) {part : Option Part} → part ≡ option_map (P.Number tag) n → Is part (given (number tag) n)
+number_given tag n e = record { one = ap given_written e ∙ go n }
   where
-    go : (o : Option (Bor (List ℕ))) → Is (option_map (P.Octets tag) o) (given (param tag) (option_copied o))
+    go : (n : Option ℕ) → given_written (option_map (P.Number tag) n) ≡ each encode_param (given (number tag) n)
     go None = refl
-    go (Some o) = one (param tag o.now)
+    go (Some n) = one_param (number tag n)
+
+pub octet_given : (tag : ℕ) (n : Option ℕ) {part : Option Part} → part ≡ option_map (P.Octet tag) n → Is part (given (octet tag) n)
+octet_given tag n e = record { one = ap given_written e ∙ go n }
+  where
+    go : (n : Option ℕ) → given_written (option_map (P.Octet tag) n) ≡ each encode_param (given (octet tag) n)
+    go None = refl
+    go (Some n) = one_param (octet tag n)
+
+pub octets_given : (tag : ℕ) (o : Option (Bor (List ℕ))) {part : Option Part} → part ≡ option_map (P.Octets tag) o → Is part (given (param tag) (option_copied o))
+octets_given tag o e = record { one = ap given_written e ∙ go o }
+  where
+    go : (o : Option (Bor (List ℕ))) → given_written (option_map (P.Octets tag) o) ≡ each encode_param (given (param tag) (option_copied o))
+    go None = refl
+    go (Some o) = one_param (param tag o.now)
 
 -- What is delivered of a message of parts.
-pub told : (m : MessageType) (parts : List (Option Part)) (ps : List Param) (out : List ℕ) → Are parts ps → deliver (made m parts) out ≡ deliver (written m ps) out
-told m parts ps out e = ap (λ (o : Outcome (List ℕ)). deliver o out) (made_written m parts ps e)
+pub told : (m : MessageType) {parts : List (Option Part)} {ps : List Param} (out : List ℕ) → Are parts ps → deliver (made m parts) out ≡ deliver (written m ps) out
+told m out e = ap (λ (o : Outcome (List ℕ)). deliver o out) (made_written m e)
 
 -- A value that is written is within what a parameter's length can tell.
 abbrev Small : Outcome (List ℕ) → Type 0
@@ -137,13 +146,13 @@ module _ (m : MessageType) (x y : Param) (sized : length x.value ≤ most_value)
           let both : run_written (e ∷ f ∷ parts) ≡ refused n vs = rw (first, encode_within (param 0x0102 w) (small w hs), hf, hd) refl in
           ap out_of (whole ∙ ap front both ∙ stops n vs)
       go (accepted w) (accepted v) hs hd =
-          let first : Is e (param 0x0102 w ∷ []) = he ∙ ap (λ (o : Outcome (List ℕ)). after o (λ w. encode_param (param 0x0102 w))) hs ∙ one (param 0x0102 w) in
-          let second : Is f (param 0x0103 v ∷ []) = hf ∙ ap (λ (o : Outcome (List ℕ)). after o (λ v. encode_param (param 0x0103 v))) hd ∙ one (param 0x0103 v) in
-          made_written m (a ∷ b ∷ e ∷ f ∷ parts) (x ∷ y ∷ param 0x0102 w ∷ param 0x0103 v ∷ ps)
-          (joined a (b ∷ e ∷ f ∷ parts) (x ∷ []) (y ∷ param 0x0102 w ∷ param 0x0103 v ∷ ps) (ha ∙ one x)
-          (joined b (e ∷ f ∷ parts) (y ∷ []) (param 0x0102 w ∷ param 0x0103 v ∷ ps) (hb ∙ one y)
-          (joined e (f ∷ parts) (param 0x0102 w ∷ []) (param 0x0103 v ∷ ps) first
-          (joined f parts (param 0x0103 v ∷ []) ps second hp))))
+          let first : Is e (param 0x0102 w ∷ []) = record { one = he ∙ ap (λ (o : Outcome (List ℕ)). after o (λ w. encode_param (param 0x0102 w))) hs ∙ one_param (param 0x0102 w) } in
+          let second : Is f (param 0x0103 v ∷ []) = record { one = hf ∙ ap (λ (o : Outcome (List ℕ)). after o (λ v. encode_param (param 0x0103 v))) hd ∙ one_param (param 0x0103 v) } in
+          made_written m
+          (joined {part = a} {parts = b ∷ e ∷ f ∷ parts} {xs = x ∷ []} {ys = y ∷ param 0x0102 w ∷ param 0x0103 v ∷ ps} (record { one = ha ∙ one_param x })
+          (joined {part = b} {parts = e ∷ f ∷ parts} {xs = y ∷ []} {ys = param 0x0102 w ∷ param 0x0103 v ∷ ps} (record { one = hb ∙ one_param y })
+          (joined {part = e} {parts = f ∷ parts} {xs = param 0x0102 w ∷ []} {ys = param 0x0103 v ∷ ps} first
+          (joined {part = f} {parts = parts} {xs = param 0x0103 v ∷ []} {ys = ps} second hp))))
 
 -- The two connectionless constructors, by their parts.
 module _ (context : ℕ) (source : Bor SuaAddress) (so : Records) (destination : Bor SuaAddress) (to : Records) {part : Option Part} where
@@ -161,10 +170,7 @@ module _ (context : ℕ) (source : Bor SuaAddress) (so : Records) (destination :
       (Some (P.Number 0x0006 context)) (Some (P.Octet 0x0115 class)) (Some (P.Address 0x0102 source so)) (Some (P.Address 0x0103 destination to))
       (Some (P.Number 0x0116 sequence) ∷ part ∷ Some (P.Octets 0x010B octets) ∷ [])
       (number 0x0116 sequence ∷ given (octet 0x0101) hop ++ param 0x010B octets.now ∷ []) refl refl refl refl
-      (joined (Some (P.Number 0x0116 sequence)) (part ∷ Some (P.Octets 0x010B octets) ∷ []) (number 0x0116 sequence ∷ [])
-      (given (octet 0x0101) hop ++ param 0x010B octets.now ∷ []) (one (number 0x0116 sequence))
-      (joined part (Some (P.Octets 0x010B octets) ∷ []) (given (octet 0x0101) hop) (param 0x010B octets.now ∷ []) (octet_is 0x0101 hop e)
-      (last (Some (P.Octets 0x010B octets)) (param 0x010B octets.now ∷ []) (one (param 0x010B octets.now)))))
+      (joined (number_is 0x0116 sequence) (joined (octet_given 0x0101 hop e) (last (octets-are 0x010B octets))))
 
   pub cldr-parts :
       (cause_type cause_value : ℕ) (octets : Option (Bor (List ℕ))) {first : Option Part} (cause : Bor (List ℕ))
@@ -179,4 +185,4 @@ module _ (context : ℕ) (source : Bor SuaAddress) (so : Records) (destination :
       (address_small 0x0102 source.now so.values.now so.rows.now) (address_small 0x0103 destination.now to.values.now to.rows.now)
       (Some (P.Number 0x0006 context)) first (Some (P.Address 0x0102 source so)) (Some (P.Address 0x0103 destination to))
       (part ∷ []) (given (param 0x010B) (option_copied octets)) refl (ap given_written f ∙ ap (λ (v : List ℕ). encode_param (param 0x0106 v)) is) refl refl
-      (last part (given (param 0x010B) (option_copied octets)) (octets-are 0x010B octets e))
+      (last (octets_given 0x010B octets e))

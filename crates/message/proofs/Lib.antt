@@ -7,3 +7,9 @@ pub mod Messages
 pub mod Listing
 pub mod Standing
 pub mod Constructing
+pub mod GivenBack
+pub mod Constructed
+pub mod ConstructedWorked
+pub mod AddressBack
+pub mod AddressStands
+pub mod Accessed

@@ -1,10 +1,10 @@
 -- `message::constructors::info_only` meets its contract.
 use mathlib.Core.Path.{◌∙◌}
-use Rattle.message.proofs.Constructing.{told, last, octets-are}
+use Rattle.message.proofs.Constructing.{told, last, octets_given}
 use Rattle.message.proofs.constructors.info_only.Goals as goal
 
 pub returns : goal.returns
 returns c =
     c.write.ensures
-    ∙ told _ _ _ c.args.out.now
-    (last _ _ (octets-are _ _ c.octets.ensures))
+    ∙ told _ c.args.out.now
+    (last (octets_given _ _ c.octets.ensures))

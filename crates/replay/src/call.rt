@@ -144,13 +144,6 @@ impl<'a> Call<'a> {
     }
 }
 
-// The words of a line are read into these.
-#[derive(Drop)]
-pub(crate) struct Words<'a> {
-    pub(crate) numbers: &'a mut [u64],
-    pub(crate) octets: &'a mut [u8],
-}
-
 // A text without the mark that ends it.
 pub(crate) fn without(text: &[u8], mark: u8) -> &[u8] {
     text.strip_suffix(&[mark]).unwrap_or(text)
@@ -231,35 +224,39 @@ fn put_pieces(pieces: &[u8], at: usize, octets: &mut [u8]) -> usize {
     to
 }
 
-impl<'a> Words<'a> {
-    // Reads a call: a first word `beyond` is skipped; then come its name, and words that are numbers, N or N*C, or octets,
-    // x and pieces.
-    pub(crate) fn call<'b>(&'b mut self, text: &'b [u8]) -> Call<'b> {
-        let given = text.strip_prefix(b"beyond ").unwrap_or(text);
-        let mut words = given.split_inclusive(|&c| c == b' ');
-        let name = without(words.next().unwrap_or(&[]), b' ');
-        let mut count = 0;
-        let mut strings = 0;
-        let mut ends = [0usize; 6];
-        for ended in words {
-            let word = without(ended, b' ');
-            if let Some(pieces) = word.strip_prefix(b"x") {
-                let from = ends.get(strings).copied().unwrap_or(0);
-                strings = strings.min(8) + 1;
-                let end = put_pieces(pieces, from, self.octets);
-                if let Some(place) = ends.get_mut(strings) {
-                    *place = end;
-                }
-            } else {
-                let (number, times) = times(word);
-                count = put(decimal(number), times, count, self.numbers);
+// Stores the numbers of words, N or N*C, and their octets, x and pieces, one string behind another, and where each string ends;
+// answers how many numbers there are.
+fn arguments(words: &[u8], numbers: &mut [u64], octets: &mut [u8], ends: &mut [usize; 6]) -> usize {
+    let mut count = 0;
+    let mut strings = 0;
+    for ended in words.split_inclusive(|&c| c == b' ') {
+        let word = without(ended, b' ');
+        if let Some(pieces) = word.strip_prefix(b"x") {
+            let from = ends.get(strings).copied().unwrap_or(0);
+            strings = strings.min(8) + 1;
+            let end = put_pieces(pieces, from, octets);
+            if let Some(place) = ends.get_mut(strings) {
+                *place = end;
             }
+        } else {
+            let (number, times) = times(word);
+            count = put(decimal(number), times, count, numbers);
         }
-        Call {
-            name,
-            numbers: self.numbers.get(..count).unwrap_or(&[]),
-            octets: self.octets,
-            ends,
-        }
+    }
+    count
+}
+
+// The call of a line, whose arguments are stored in what is lent. A first word `beyond` is skipped.
+pub(crate) fn read<'a>(text: &'a [u8], numbers: &'a mut [u64], octets: &'a mut [u8]) -> Call<'a> {
+    let given = text.strip_prefix(b"beyond ").unwrap_or(text);
+    let end = given.iter().position(|&c| c == b' ').unwrap_or(given.len());
+    let words = given.get(end.saturating_add(1)..).unwrap_or(&[]);
+    let mut ends = [0usize; 6];
+    let count = arguments(words, numbers, octets, &mut ends);
+    Call {
+        name: &given[..end],
+        numbers: numbers.get(..count).unwrap_or(&[]),
+        octets,
+        ends,
     }
 }

@@ -9,7 +9,7 @@ mod numbers;
 mod records;
 mod tables;
 
-use call::{Call, Words, without};
+use call::{Call, without};
 use line::Line;
 use std::fmt;
 
@@ -18,15 +18,22 @@ const STDIN: i32 = 0;
 
 const STDOUT: i32 = 1;
 
-// What a call may be lent.
-#[derive(Drop)]
-pub(crate) struct Lent<'a> {
-    pub(crate) out: &'a mut [u8],
-    pub(crate) codes: &'a mut [u32],
+// The answer of a call that is given or lent a table, or a buffer, or codes.
+fn lent(call: &Call, out: &mut [u8], codes: &mut [u32], line: &mut Line) -> fmt::Result {
+    match call.name {
+        b"decode_parameters" | b"message_decode" | b"address_decode" => tables::read(call, line),
+        b"unpack_affected_point_codes" | b"affected_point_codes" | b"contexts_in" => {
+            tables::codes(call, codes, line)
+        }
+        b"parameters_length" | b"find_parameter" | b"routing_context" | b"sequence_control"
+        | b"protocol_class" | b"ss7_hop_count" | b"sccp_cause" | b"source_address"
+        | b"destination_address" | b"data" | b"screen" => tables::answer(call, line),
+        _ => buffers::answer(call, out, codes, line),
+    }
 }
 
-// The answer of a call, by what it is given or lent: numbers and octets, a table, a buffer.
-fn answer(call: &Call, lent: &mut Lent, line: &mut Line) -> fmt::Result {
+// The answer of a call, by what it is given or lent.
+fn answer(call: &Call, out: &mut [u8], codes: &mut [u32], line: &mut Line) -> fmt::Result {
     match call.name {
         b"" => Ok(()),
         b"gt_digits_length" | b"parameter_decode" | b"wire_length" | b"as_u32" | b"step"
@@ -34,21 +41,14 @@ fn answer(call: &Call, lent: &mut Lent, line: &mut Line) -> fmt::Result {
         | b"class_type" | b"header_decode" | b"settled_length" => numbers::answer(call, line),
         b"decode_gt_digits" => records::decode_gt_digits(call.string(0), call.get(0), line),
         b"title_decode" => records::title_decode(call.string(0), line),
-        b"decode_parameters" | b"message_decode" | b"address_decode" => tables::read(call, line),
-        b"unpack_affected_point_codes" | b"affected_point_codes" | b"contexts_in" => {
-            tables::codes(call, lent.codes, line)
-        }
-        b"parameters_length" | b"find_parameter" | b"routing_context" | b"sequence_control"
-        | b"protocol_class" | b"ss7_hop_count" | b"sccp_cause" | b"source_address"
-        | b"destination_address" | b"data" | b"screen" => tables::answer(call, line),
-        _ => buffers::answer(call, lent, line),
+        _ => lent(call, out, codes, line),
     }
 }
 
-// Answers a line of the list, and prints the answer and a line feed.
-fn print(text: &[u8], words: &mut Words, lent: &mut Lent, room: &mut [u8]) {
+// Answers a call, and prints the answer and a line feed.
+fn print(call: &Call, out: &mut [u8], codes: &mut [u32], room: &mut [u8]) {
     let mut line = Line::new(room);
-    let _ = answer(&words.call(text), lent, &mut line);
+    let _ = answer(call, out, codes, &mut line);
     line.octet(b'\n');
     io::write_all(STDOUT, line.shown());
 }
@@ -63,10 +63,9 @@ fn run(
     line: &mut [u8; 200000],
 ) {
     let n = io::read_full(STDIN, text);
-    let mut words = Words { numbers, octets };
-    let mut lent = Lent { out, codes };
     for given in text[..n.min(1000000)].split_inclusive(|&c| c == b'\n') {
-        print(without(given, b'\n'), &mut words, &mut lent, line);
+        let call = call::read(without(given, b'\n'), numbers, octets);
+        print(&call, out, codes, line);
     }
 }
 

@@ -12,7 +12,7 @@ use parameter::table::Records;
 use parameter::tags::{DESTINATION_ADDRESS, SOURCE_ADDRESS};
 
 // The handling fields, each what its own accessor answers.
-#[derive(Clone, Copy)]
+#[derive(Clone, Copy, Debug, PartialEq, Eq)]
 pub struct Screen {
     pub routing_context: Result<Option<u32>, Refusal>,
     pub protocol_class: Result<Option<u8>, Refusal>,

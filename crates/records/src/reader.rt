@@ -11,7 +11,7 @@ use message::header::CommonHeader;
 use parameter::{Cursor, Place};
 
 // A message's octets, and the position of the next parameter.
-#[derive(Clone, Copy, Debug)]
+#[derive(Clone, Copy, Debug, PartialEq, Eq)]
 pub struct Reader<'a> {
     pub bytes: &'a [u8],
     pub at: usize,

@@ -4,7 +4,7 @@ use mathlib.Core.Path.{◌≡◌, ap, ◌∙◌}
 use mathlib.Core.List.{List}
 use lib.ListN.{get_or}
 use Rattle.bcd.specs.Outcome.{Outcome}
-use Rattle.bcd.specs.Answers.{counted_of}
+use Rattle.bcd.specs.Answers.{outcome_of}
 use Rattle.report.specs.Report.{numbers, reported}
 use Rattle.tally.specs.Rows.{Rows}
 use Rattle.tally.specs.Tally.{Tallied, tallied}
@@ -23,4 +23,4 @@ stored {number} {rows} {report} o t held e n r =
     ∙ ap (λ (t : Tallied). enter_rows t held) e
 
 pub returns : goal.returns
-returns c = stored (counted_of c.tally.result) _ c.args.report.now c.tally.ensures c.store.ensures.value c.store.ensures.report_after
+returns c = stored (outcome_of c.tally.result) _ c.args.report.now c.tally.ensures c.store.ensures.value c.store.ensures.report_after

@@ -1,18 +1,17 @@
 -- The numbers of an answer, and a report that gets them.
 use Prim.Native.Nat.{ℕ, ◌≤◌, ◌<◌, min}
-use mathlib.Core.Path.{◌≡◌, refl, sym, ap, ◌∙◌}
+use mathlib.Core.Path.{◌≡◌, refl}
 use mathlib.Core.List.{List, ◌++◌}
 use mathlib.Core.Logic.{⊎_elim}
 use native.Mathlib.Omega.{arith}
-use lib.ListN.{length, get_or, take, drop, length-take, drop_of_length-le}
+use lib.ListN.{length, get_or, take, drop, drop_of_length-le}
 use lib.Seq.{take_all}
 use Rattle.bcd.specs.declared.error.Refusal.{Refusal}
 use Rattle.bcd.specs.declared.error.Refusal.TheVariants as R
 use Rattle.bcd.specs.Answers.{numbered}
-use Rattle.bcd.specs.Outcome.{Outcome, accepted, refused, Delivered}
+use Rattle.bcd.specs.Outcome.{Outcome, accepted, refused}
 use Rattle.bcd.proofs.Outcomes.{le_or_lt}
-use Rattle.bcd.proofs.Writing.{Begun}
-use Rattle.report.specs.Report.{numbers, reported, enter}
+use Rattle.report.specs.Report.{numbers, reported}
 
 -- A refusal's number has at most two decimal digits.
 pub number_small : (r : Refusal) → (numbered r).0 < 100
@@ -62,15 +61,3 @@ all-stored o ns held count e k = rw e (⊎_elim four fewer (le_or_lt 4 (length h
         let self : length held ≤ length held = omega arith in
         let few : length held ≤ 4 = omega arith in
         rw (n, drop_of_length-le held self, drop_of_length-le held few) refl
-
--- what an entry leaves, from the answer that it stored
-pub entry_stored :
-    {number : ℕ} {buffer report : List ℕ} (o : Outcome ℕ) (d : Delivered) (held : List ℕ)
-    → record { answer = o; buffer = buffer } ≡ d
-    → number ≡ get_or (numbers o) 0 0
-    → report ≡ reported o held
-    → record { number = number; buffer = buffer; report = report } ≡ enter d held
-entry_stored {number} {buffer} {report} o d held e n r =
-    ap (λ (k : ℕ). record { number = k; buffer = buffer; report = report }) n
-    ∙ ap (λ (k : List ℕ). record { number = get_or (numbers o) 0 0; buffer = buffer; report = k }) r
-    ∙ ap (λ (d : Delivered). enter d held) e

@@ -10,6 +10,6 @@ fn main() {
     let mut input = [0u8; 65537];
     let mut out = [0u8; 147471];
     let n = io::read_full(STDIN, &mut input);
-    let length = flat::line::line(&input, n, &mut out);
+    let length = flat::line::line(&input[..n], &mut out);
     io::write_all(STDOUT, &out[..length]);
 }

@@ -10,6 +10,7 @@ pub mod Values
 pub mod Back
 pub mod Exactly
 pub mod Worked
+pub mod PartyExactly
 pub mod PartyWriting
 pub mod ValueReading
 pub mod ValueWriting

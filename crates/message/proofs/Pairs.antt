@@ -8,34 +8,16 @@ use native.Mathlib.Omega.{arith}
 use native.Mathlib.Nat.{zero-add}
 use lib.Dec.{leb, ltb, eqb, lit≤}
 use borrow.Author.Tests.{eqb-true, eq-eqb, ne_eqb, leb-true, ltb-true}
-use Rattle.bcd.specs.Outcome.{Outcome, accepted, refused, pick}
+use Rattle.bcd.specs.Outcome.{Outcome, accepted, refused, pick, every}
 use Rattle.bcd.proofs.Outcomes.{accepted_inj, never, le_or_lt}
 use Rattle.bcd.proofs.Below.{both}
 use Rattle.message.specs.declared.types.MessageType.{MessageType}
 use Rattle.message.specs.declared.types.MessageType.TheVariants as T
-use Rattle.message.specs.Types.{first, class_octet, message_classes, from_octet, class_of, type_of, message_types, from_class_type, known, sum_below, known_pairs}
+use Rattle.message.specs.Types.{first, class_of, type_of, message_types, from_class_type, known, sum_below, known_pairs}
 
 off : (t : Bool) → (t ≡ true → ⊥) → t ≡ false
 off true h = absurd (h refl)
 off false h = refl
-
-abbrev pub all_of : {A : Type 0} → (A → Bool) → List A → Bool
-all_of f [] = true
-all_of f (x ∷ xs) = f x && all_of f xs
-
--- One of some numbers.
-abbrev one_of : List ℕ → ℕ → Bool
-one_of [] n = false
-one_of (k ∷ ks) n = eqb n k || one_of ks n
-
--- None of some numbers, the last first: what the last arm of a match is told.
-abbrev pub NoneOf : List ℕ → ℕ → Type 0
-NoneOf [] n = Unit {0}
-NoneOf (k ∷ ks) n = NoneOf ks n × (n ≡ k → ⊥)
-
-apart : (ks : List ℕ) (n : ℕ) → NoneOf ks n → one_of ks n ≡ true → ⊥
-apart [] n h e = let z : ◌≡◌ {A = ℕ} 0 1 = cc in omega arith
-apart (k ∷ ks) n h e = apart ks n h.0 (rw (ne_eqb n k h.1) at e)
 
 module _ {A : Type 0} (test : A → Bool) where
   -- What was found passes the test.
@@ -56,11 +38,11 @@ module _ {A : Type 0} (test : A → Bool) where
   first-among :
       (f : A → Bool) (xs : List A) (n : ℕ) (vs : List ℕ) (x : A)
       → first test xs (refused n vs) ≡ accepted x
-      → all_of f xs ≡ true
+      → every f xs ≡ true
       → f x ≡ true
   first-among f [] n vs x e h = absurd (never e)
   first-among f (y ∷ ys) n vs x e h =
-      let (here, others) = both (f y) (all_of f ys) h in
+      let (here, others) = both (f y) (every f ys) h in
       on (test y) e here (λ d. first-among f ys n vs x d others)
     where
       on :
@@ -76,11 +58,11 @@ module _ {A : Type 0} (test : A → Bool) where
   first_none :
       (f : A → Bool) (xs : List A) (other : Outcome A)
       → ((x : A) → f x ≡ true → test x ≡ true → ⊥)
-      → all_of f xs ≡ true
+      → every f xs ≡ true
       → first test xs other ≡ other
   first_none f [] other out e = refl
   first_none f (x ∷ xs) other out e =
-      let (here, others) = both (f x) (all_of f xs) e in
+      let (here, others) = both (f x) (every f xs) e in
       rw (off (test x) (out x here)) (first_none f xs other out others)
 
 -- A type that was found has that pair ..
@@ -130,64 +112,26 @@ pair_of_type T.DeregReq = refl
 pair_of_type T.DeregRsp = refl
 
 -- A test that every type of the list passes, any type passes.
-pub every : (f : MessageType → Bool) → all_of f message_types ≡ true → (m : MessageType) → f m ≡ true
+any_type : (f : MessageType → Bool) → every f message_types ≡ true → (m : MessageType) → f m ≡ true
 unfolding from_class_type
-every f e m = first-among (λ k. eqb (class_of m) (class_of k) && eqb (type_of m) (type_of k)) f message_types _ _ m (pair_of_type m) e
-
-accepts : {A : Type 0} → Outcome A → Bool
-accepts (accepted a) = true
-accepts (refused n vs) = false
-
--- Each type's class is known.
-pub class_known : (m : MessageType) (n : ℕ) (vs : List ℕ) → from_octet (class_of m) ≡ refused n vs → ⊥
-unfolding from_octet accepts
-class_known m n vs e = let z = sym (every (λ m. accepts (from_octet (class_of m))) refl m) ∙ ap accepts e in let y : ◌≡◌ {A = ℕ} 0 1 = cc in omega arith
+any_type f e m = first-among (λ k. eqb (class_of m) (class_of k) && eqb (type_of m) (type_of k)) f message_types _ _ m (pair_of_type m) e
 
 pub class_octet_lem : (m : MessageType) → class_of m < 256
-class_octet_lem m = omega (arith, ltb-true (class_of m) 256 (every (λ m. ltb (class_of m) 256) refl m))
+class_octet_lem m = omega (arith, ltb-true (class_of m) 256 (any_type (λ m. ltb (class_of m) 256) refl m))
 
 pub type_octet : (m : MessageType) → type_of m < 256
-type_octet m = omega (arith, ltb-true (type_of m) 256 (every (λ m. ltb (type_of m) 256) refl m))
-
--- Where the code answers a type.
-pub reads_as : (m : MessageType) (c t : ℕ) → c ≡ class_of m → t ≡ type_of m → accepted m ≡ from_class_type c t
-reads_as m c t ec et = sym (ap₂ from_class_type ec et ∙ pair_of_type m)
+type_octet m = omega (arith, ltb-true (type_of m) 256 (any_type (λ m. ltb (type_of m) 256) refl m))
 
 -- A pair that no type has is refused, by a property of all types.
 unknown_pair :
     (c t : ℕ) (f : MessageType → Bool)
     → ((m : MessageType) → f m ≡ true → c ≡ class_of m → t ≡ type_of m → ⊥)
-    → all_of f message_types ≡ true
+    → every f message_types ≡ true
     → from_class_type c t ≡ refused 4 (c ∷ t ∷ [])
 unfolding from_class_type
 unknown_pair c t f out e =
     first_none (λ m. eqb c (class_of m) && eqb t (type_of m)) f message_types (refused 4 (c ∷ t ∷ []))
     (λ m h k. let (hc, ht) = both (eqb c (class_of m)) _ k in out m h (eqb-true c (class_of m) hc) (eqb-true t (type_of m) ht)) e
-
--- A class's types are among some numbers, and any other type is refused.
-pub other_type :
-    (c t : ℕ) (ks : List ℕ)
-    → NoneOf ks t
-    → all_of (λ m. not (eqb c (class_of m)) || one_of ks (type_of m)) message_types ≡ true
-    → from_class_type c t ≡ refused 4 (c ∷ t ∷ [])
-other_type c t ks h e =
-    unknown_pair c t (λ m. not (eqb c (class_of m)) || one_of ks (type_of m))
-    (λ m k ec et. apart ks t h (rw (eq-eqb c (class_of m) ec, ← et) at k)) e
-
--- The octets that are a class, the last first.
-abbrev pub class_octets : List ℕ
-class_octets = 9 ∷ 8 ∷ 7 ∷ 4 ∷ 3 ∷ 2 ∷ 0 ∷ []
-
-pub other_class : (c t : ℕ) → NoneOf class_octets c → from_class_type c t ≡ refused 4 (c ∷ t ∷ [])
-other_class c t h =
-    unknown_pair c t (λ m. one_of class_octets (class_of m))
-    (λ m k ec et. apart class_octets c h (rw (← ec) at k)) refl
-
-pub other_octet : (octet : ℕ) → NoneOf class_octets octet → from_octet octet ≡ refused 3 (octet ∷ [])
-unfolding from_octet
-other_octet octet h =
-    first_none (λ c. eqb octet (class_octet c)) (λ c. one_of class_octets (class_octet c)) message_classes (refused 3 (octet ∷ []))
-    (λ c k e. apart class_octets octet h (rw (← eqb-true octet (class_octet c) e) at k)) refl
 
 sum_same : (n : ℕ) (f g : ℕ → ℕ) → ((i : ℕ) → f i ≡ g i) → sum_below n f ≡ sum_below n g
 sum_same zero f g e = refl

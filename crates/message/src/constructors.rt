@@ -16,7 +16,7 @@ use address::SuaAddress;
 use bcd::error::Refusal;
 use parameter::table::Records;
 use parameter::tags;
-use pieces::{Part, run_length, write_run};
+use pieces::{Part, addresses, run_length, write_run};
 
 // The SS7 hop counter that a CLDT starts with (RFC 3868, 3.10.1).
 pub const DEFAULT_HOP_COUNTER: u8 = 15;
@@ -156,15 +156,13 @@ impl SuaMessage {
             sequence_control ss7_hop_count «data».now)
             out.old }
     {
+        let [source, destination] =
+            addresses(source, source_others, destination, destination_others);
         let parts = [
             Some(Part::Number(tags::ROUTING_CONTEXT, routing_context)),
             Some(Part::Octet(tags::PROTOCOL_CLASS, protocol_class)),
-            Some(Part::Address(tags::SOURCE_ADDRESS, source, source_others)),
-            Some(Part::Address(
-                tags::DESTINATION_ADDRESS,
-                destination,
-                destination_others,
-            )),
+            Some(source),
+            Some(destination),
             Some(Part::Number(tags::SEQUENCE_CONTROL, sequence_control)),
             octet(tags::SS7_HOP_COUNTER, ss7_hop_count),
             Some(Part::Octets(tags::DATA, data)),
@@ -192,16 +190,14 @@ impl SuaMessage {
             (option_copied «data».entry))
             out.old }
     {
+        let [source, destination] =
+            addresses(source, source_others, destination, destination_others);
         let cause = [0, 0, cause_type, cause_value];
         let parts = [
             Some(Part::Number(tags::ROUTING_CONTEXT, routing_context)),
             octets(tags::SCCP_CAUSE, Some(&cause)),
-            Some(Part::Address(tags::SOURCE_ADDRESS, source, source_others)),
-            Some(Part::Address(
-                tags::DESTINATION_ADDRESS,
-                destination,
-                destination_others,
-            )),
+            Some(source),
+            Some(destination),
             octets(tags::DATA, data),
         ];
         write(MessageType::Cldr, &parts, out)

@@ -45,18 +45,12 @@ module _ {A : Type 0} (f : A → Outcome (List ℕ)) (xs : List A) where
     pub so_far : each f (take i xs) ≡ accepted octets
     pub sum : total ≡ fit64 (length octets)
 
-  pub measured_start : Measured 0 0
-  measured_start = record { octets = []; so_far = refl; sum = omega arith }
-
   -- the first i elements are written
   pub record Running (out d : List ℕ) (i at : ℕ) : Type 0 where
     pub octets : List ℕ
     pub so_far : each f (take i xs) ≡ accepted octets
     pub begun : Begun out octets d
     pub place : length octets ≡ at
-
-  pub running_start : (out : List ℕ) → Running out out 0 0
-  running_start out = record { octets = []; so_far = refl; begun = untouched out; place = refl }
 
 module _ {A : Type 0} {f : A → Outcome (List ℕ)} {xs : List A} {i total : ℕ} (m : Measured f xs i total) where
   pub measured_more :
@@ -83,9 +77,6 @@ module _ {A : Type 0} {f : A → Outcome (List ℕ)} {xs : List A} {i total : �
       go : (o : Outcome (List ℕ)) → refused n vs ≡ mapped length o → o ≡ refused n vs
       go (accepted os) e = absurd (never e)
       go (refused k ws) e = let a : n ≡ k = cc in let b : vs ≡ ws = cc in rw (a, b) refl
-
-  pub measured_all : length xs ≤ i → accepted total ≡ mapped (λ (os : List ℕ). fit64 (length os)) (each f xs)
-  measured_all h = let e = rw (take_all i xs h) at m.so_far in rw e (ap accepted m.sum)
 
 module _ {A : Type 0} {f : A → Outcome (List ℕ)} {xs : List A} {out d : List ℕ} {i at : ℕ} (r : Running f xs out d i at) (p : Placeable (each f xs) (length out)) where
   -- the next element, within the buffer
@@ -137,9 +128,6 @@ module _ {A : Type 0} {f : A → Outcome (List ℕ)} {xs : List A} {out d : List
   running_accepts x n vs last h e =
       let (os, k, room) = running_next x h in
       never (wrote at (f (get_or xs i x)) os r.begun r.place k room e).count
-
-  pub running_reach : at ≤ length d
-  running_reach = omega (arith, r.place, r.begun.fits, r.begun.same)
 
   pub running_fit : (x : A) (n : ℕ) (last : List ℕ) → i < length xs → record { answer = accepted n; buffer = last } ≡ deliver (f (get_or xs i x)) (mid_of at (length d - at) d) → at + n ≤ length out
   running_fit x n last h e = let s = running_more x n last h e in omega (arith, s.place, s.begun.fits)

@@ -3,17 +3,18 @@
 
 pub mod point_codes;
 
-ghost use Rattle.std.specs.Prelude.{◌≡◌, length};
+ghost use Rattle.std.specs.Prelude.{◌≡◌, [], ◌∷◌, length};
 ghost use Rattle.bcd.specs.Outcome.{after, mapped, fit64, delivered, deliver};
 ghost use Rattle.bcd.specs.Answers.{outcome_of};
 ghost use Rattle.parameter.specs.Parameter.{encode_param, writable};
+ghost use Rattle.pieces.specs.declared.Part.TheVariants as P;
 ghost use Rattle.pieces.specs.Parts.{number, part_written, run_written, Placeable};
 
 use address::SuaAddress;
 use address::encode::encoded_length;
 use bcd::error::Refusal;
 use parameter::table::Records;
-use parameter::tags::AFFECTED_POINT_CODE;
+use parameter::tags::{AFFECTED_POINT_CODE, DESTINATION_ADDRESS, SOURCE_ADDRESS};
 use parameter::{encode, frame, wire_length};
 use point_codes::pack_affected_point_codes;
 
@@ -71,6 +72,21 @@ impl<'a> Part<'a> {
             }
         }
     }
+}
+
+// The two addresses of a message, the source first.
+pub fn addresses<'a>(
+    source: &'a SuaAddress,
+    source_others: Records<'a>,
+    destination: &'a SuaAddress,
+    destination_others: Records<'a>,
+) -> [Part<'a>; 2]
+    ensures { result ≡ P.Address 0x0102 source.entry source_others.entry
+        ∷ P.Address 0x0103 destination.entry destination_others.entry ∷ [] }
+{
+    let source = Part::Address(SOURCE_ADDRESS, source, source_others);
+    let destination = Part::Address(DESTINATION_ADDRESS, destination, destination_others);
+    [source, destination]
 }
 
 // What parts take on the wire together; an absent one takes nothing. The refusals of each in order.

@@ -8,7 +8,7 @@ use Rattle.message.proofs.SuaMessage.cldr.Goals as goal
 
 pub returns : goal.returns
 returns c =
-    c.write.ensures
+    rw (c.addresses.ensures) at c.write.ensures
     ∙ ap (λ (o : Outcome (List ℕ)). deliver o c.args.out.now)
     (cldr-parts c.args.routing_context c.args.source c.args.source_others c.args.destination c.args.destination_others c.args.cause_type c.args.cause_value
     c.args.«data» _ c.octets.ensures refl c.octets-2.ensures)

@@ -8,7 +8,7 @@ use Rattle.message.proofs.SuaMessage.cldt.Goals as goal
 
 pub returns : goal.returns
 returns c =
-    c.write.ensures
+    rw (c.addresses.ensures) at c.write.ensures
     ∙ ap (λ (o : Outcome (List ℕ)). deliver o c.args.out.now)
     (cldt-parts c.args.routing_context c.args.source c.args.source_others c.args.destination c.args.destination_others c.args.protocol_class c.args.sequence_control
     c.args.ss7_hop_count c.args.«data» c.octet.ensures)

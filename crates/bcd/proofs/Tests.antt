@@ -3,7 +3,7 @@ use Prim.Native.Nat.{ℕ, zero, suc, ◌+◌, ◌≤◌, ◌<◌}
 use mathlib.Core.Path.{◌≡◌, refl, sym, ap}
 use mathlib.Core.Bool.{Bool, true, false, ◌&&◌, ◌||◌, cond, or-true, or-false, or_assoc}
 use Rattle.std.specs.Prelude.{nat_eq}
-use Rattle.std.specs.List.{list_any, list_all}
+use Rattle.std.specs.List.{list_any}
 use mathlib.Core.Logic.{◌↔◌, ◌⊎◌, inl, inr}
 use mathlib.Core.List.{List, [], ◌∷◌, ◌++◌}
 use native.Mathlib.Omega.{arith}
@@ -79,14 +79,10 @@ among_from n (m ∷ ms) (suc k) h e = rw (among_from n ms k (omega arith) e) (or
 pub among_iff : (n : ℕ) (ms : List ℕ) → (among n ms ≡ true) ↔ ((k : ℕ) × (k < length ms) × (get_or ms k 0 ≡ n))
 among_iff n ms = (among-to n ms, (λ (k, h, e). among_from n ms k h e))
 
--- The library's words for the same tests.
+-- The library's words for the same.
 pub any_is_among : (n : ℕ) (ms : List ℕ) → list_any (λ m. nat_eq m n) ms ≡ among n ms
 any_is_among n [] = refl
 any_is_among n (m ∷ ms) = ap (λ b. nat_eq m n || b) (any_is_among n ms)
-
-pub all_is_every : {A : Type 0} (test : A → Bool) (xs : List A) → list_all test xs ≡ every test xs
-all_is_every test [] = refl
-all_is_every test (x ∷ xs) = ap (λ b. test x && b) (all_is_every test xs)
 
 pub cond_is_pick : {A : Type 0} (b : Bool) (x y : A) → cond b x y ≡ pick b x y
 cond_is_pick true x y = refl

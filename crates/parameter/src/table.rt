@@ -23,7 +23,7 @@ pub fn count(bytes: &[u8], from: usize) -> Result<usize, Refusal>
 }
 
 // Stores the places of all parameters from a position on, in rows that are as many.
-fn fill(bytes: &[u8], from: usize, rows: &mut [Place])
+fn store(bytes: &[u8], from: usize, rows: &mut [Place])
     requires { accepted (length rows.old) ≡ mapped length (bounded bytes.now (places bytes.now from)) }
     ensures { accepted rows.new ≡ bounded bytes.now (places bytes.now from) }
 {
@@ -46,7 +46,7 @@ pub fn decode_parameters_from(bytes: &[u8], from: usize, rows: &mut [Place]) -> 
     if rows.len() < needed {
         return Err(Refusal::TableTooSmall(needed));
     }
-    fill(bytes, from, &mut rows[..needed]);
+    store(bytes, from, &mut rows[..needed]);
     Ok(needed)
 }
 

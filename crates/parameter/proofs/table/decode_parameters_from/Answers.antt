@@ -24,5 +24,5 @@ pub returns : goal.returns
 returns c =
     let o = bounded c.args.bytes.now (places c.args.bytes.now c.args.from) in
     let n = c.in_ok-needed.needed in
-    let l = sym (accepted_inj (c.in_ok-needed.ensures ∙ ap (mapped length) (sym c.fill.ensures))) in
-    table_filled o c.fill.new.rows n c.args.rows.now _ (sym c.fill.ensures) l c.if-rows-needed.false (ap (λ k. c.fill.new.rows ++ drop k c.args.rows.now) (sym l))
+    let l = sym (accepted_inj (c.in_ok-needed.ensures ∙ ap (mapped length) (sym c.store.ensures))) in
+    table_filled o c.store.new.rows n c.args.rows.now _ (sym c.store.ensures) l c.if-rows-needed.false (ap (λ k. c.store.new.rows ++ drop k c.args.rows.now) (sym l))

@@ -1,4 +1,4 @@
--- `parameter::table::fill` meets its contract: the walk has come past n parameters, whose places are stored.
+-- `parameter::table::store` meets its contract: the walk has come past n parameters, whose places are stored.
 use mathlib.Core.Path.{sym, ap, ◌∙◌}
 use native.Mathlib.Omega.{arith}
 use lib.ListN.{length}
@@ -8,7 +8,7 @@ use Rattle.bcd.proofs.Writing.{untouched}
 use Rattle.parameter.specs.declared.Parameters.{Parameters}
 use Rattle.parameter.proofs.Reaching.{passed_none, passed_small, passed_room, passed_refused}
 use Rattle.parameter.proofs.Filling.{filling_next, filling_end}
-use Rattle.parameter.proofs.table.fill.Goals as goal
+use Rattle.parameter.proofs.table.store.Goals as goal
 
 pub loop-place-init : goal.loop-place-init
 loop-place-init c =

@@ -21,6 +21,7 @@ use Rattle.address.specs.Given.{encode_address_as}
 use Rattle.address.specs.Steps.GivenParts.{given_title, given_param, given_head, four_length, within, length_with}
 use Rattle.address.specs.declared.SuaAddress.{SuaAddress}
 use Rattle.address.proofs.Planning.{mapped_refused, param_of, code_param, sub_one, four-length, parts-written, parts_refused}
+use Rattle.address.proofs.Putting.{delivered_never}
 use Rattle.address.proofs.Copying.{lent_length}
 use Rattle.address.proofs.Delivering.{parts_octets, parts-length, parts-done}
 use Rattle.address.proofs.GivenParts.{title_accepts, title_refuses, title_small}
@@ -253,16 +254,6 @@ module _ (tag : ℕ) (a : SuaAddress) (values : List ℕ) (t : Table) (total : �
       go w hw l os inside (accepted ts) h = known-titled w hw l os inside ts h
       go w hw l os inside (refused n vs) h = absurd (never (sym (given_untitled tag a values t os inside n vs h) ∙ hw))
 
--- Room for a sub-parameter of four octets behind what was written.
-pub four-behind :
-    (f : ℕ → Param)
-    → ((n : ℕ) → length (f n).value ≡ 4)
-    → (o : Option ℕ) {out p d : List ℕ} (at : ℕ)
-    → Begun out p d
-    → at + run_length (param_of f o) ≤ length out
-    → four_length o ≤ length (mid_of at (length d - at) d)
-four-behind f h o {out} {p} {d} at w room = omega (arith, four-length f h o, lent_length d at, w.same)
-
 -- The others behind the rest: all is written.
 pub given-done :
     {tag : ℕ} {a : SuaAddress} {values : List ℕ} {t : Table} {total : ℕ} (k : Known tag a values t total) {out d last : List ℕ} {p : Outcome ℕ} (at : ℕ)
@@ -279,3 +270,15 @@ given-done {tag} {a} {values} {t} {total} k {out} {d} {last} at b place room e =
     let size : length (given_head a ++ run_octets whole) ≡ total = omega (arith, run_length_lem whole, parts-length k.titled (codes_of a) (subs_of a) k.others, k.size) in
     parts-done (given_head a) k.titled (codes_of a) (subs_of a) k.others at total b place room put size
     ∙ ap (λ (o : Outcome (List ℕ)). deliver o out) (sym k.octets)
+
+-- There is room for the others.
+pub given_never :
+    {X : Type 0} {tag : ℕ} {a : SuaAddress} {values : List ℕ} {t : Table} {total : ℕ} (k : Known tag a values t total) {out p d last : List ℕ} (at : ℕ) {n : ℕ} {vs : List ℕ}
+    → Begun out p d
+    → at + run_length k.others ≤ length out
+    → record { answer = refused n vs; buffer = last } ≡ deliver (after (records values t a.other_count) encode_params) (mid_of at (length d - at) d)
+    → X
+given_never k {out} {p} {d} at b room e =
+    let lent = mid_of at (length d - at) d in
+    delivered_never (run_octets k.others) lent (omega (arith, run_length_lem k.others, lent_length d at, b.same))
+    (e ∙ ap (λ (o : Outcome (List ℕ)). deliver o lent) k.encoded)

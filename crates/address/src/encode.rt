@@ -1,10 +1,10 @@
 // Addresses written from their records (address.rs; RFC 3868, 3.10.2).
-ghost use Rattle.std.specs.Prelude.{◌≡◌, ◌++◌, ◌≤◌, length, drop, Some};
+ghost use Rattle.std.specs.Prelude.{◌≡◌, ◌++◌, ◌≤◌, length, drop, option_map, Some};
 ghost use Rattle.bcd.specs.Outcome.{accepted, mapped, delivered, deliver};
 ghost use Rattle.bcd.specs.Answers.{outcome_of};
-ghost use Rattle.parameter.specs.Parameter.{run_octets, run_length};
+ghost use Rattle.parameter.specs.Parameter.{four, run_octets, run_length};
 ghost use Rattle.address.specs.Given.{encode_address_as, encode_address};
-ghost use Rattle.address.specs.Steps.GivenParts.{given_title, given_param, given_head, title_room, Roomed, length_with, room_for};
+ghost use Rattle.address.specs.Steps.GivenParts.{given_title, sub_value, given_param, given_head, title_room, Roomed, length_with, room_for};
 
 use crate::interpret::four_length;
 use crate::{GlobalTitle, SuaAddress};
@@ -112,6 +112,22 @@ pub fn write_four(tag: u16, value: Option<[u8; 4]>, out: &mut [u8]) -> Result<us
 }
 
 impl SuaAddress {
+    // The value of the point code's sub-parameter, if it is there.
+    fn code_octets(&self) -> Option<[u8; 4]>
+        ensures { result ≡ option_map four self.now.point_code }
+    {
+        let code = self.point_code?;
+        Some(code.to_be_bytes())
+    }
+
+    // The value of the SSN's: three reserved octets in front of it.
+    fn ssn_octets(&self) -> Option<[u8; 4]>
+        ensures { result ≡ option_map sub_value self.now.ssn }
+    {
+        let ssn = self.ssn?;
+        Some([0, 0, 0, ssn])
+    }
+
     // Writes the routing indicator and the address indicator.
     fn write_head(&self, out: &mut [u8])
         requires { 4 ≤ length out.old }
@@ -147,10 +163,8 @@ impl SuaAddress {
     {
         let a = 4 + self.write_title(&mut out[4..])?;
         self.write_head(out);
-        let code = self.point_code.map(|code| code.to_be_bytes());
-        let b = a + write_four(POINT_CODE, code, &mut out[a..])?;
-        let ssn = self.ssn.map(|ssn| [0, 0, 0, ssn]);
-        let c = b + write_four(SUBSYSTEM_NUMBER, ssn, &mut out[b..])?;
+        let b = a + write_four(POINT_CODE, self.code_octets(), &mut out[a..])?;
+        let c = b + write_four(SUBSYSTEM_NUMBER, self.ssn_octets(), &mut out[b..])?;
         others.encode_parameters(self.other_count, &mut out[c..])?;
         Ok(total)
     }

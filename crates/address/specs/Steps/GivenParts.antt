@@ -16,6 +16,10 @@ abbrev pub given_title : Option GlobalTitle → Outcome (List Param)
 given_title None = accepted []
 given_title (Some g) = after (title_given g) (λ t. sub_param built_in (title t))
 
+-- The value of an SSN's sub-parameter (RFC 3868, 3.10.2.5).
+abbrev pub sub_value : ℕ → List ℕ
+sub_value n = 0 ∷ 0 ∷ 0 ∷ n ∷ []
+
 -- A sub-parameter of a tag and a value, if it is there.
 abbrev pub given_param : (tag : ℕ) → Option (List ℕ) → List Param
 given_param tag None = []

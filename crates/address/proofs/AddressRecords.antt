@@ -2,15 +2,13 @@
 use Prim.Native.Nat.{ℕ, zero, suc, ◌+◌, ◌≤◌}
 use mathlib.Core.Path.{◌≡◌, refl, sym, ap, ◌∙◌}
 use mathlib.Core.Bool.{Bool}
-use Rattle.std.specs.Prelude.{Option, None, Some, Result, Ok, option_map}
+use Rattle.std.specs.Prelude.{Option, None, Some, option_map}
 use mathlib.Core.List.{List, map}
 use native.Mathlib.Omega.{arith}
 use borrow.Author.Tests.{le-leb}
 use lib.ListN.{length, get_or, length-map}
-use Rattle.bcd.specs.Outcome.{Outcome, accepted, mapped, bounded, most}
-use Rattle.bcd.specs.Answers.{outcome_of}
+use Rattle.bcd.specs.Outcome.{accepted, mapped, bounded, most}
 use Rattle.bcd.specs.Digits.{built_in}
-use Rattle.bcd.specs.declared.error.Refusal.{Refusal}
 use Rattle.bcd.proofs.Outcomes.{accepted_inj, bounded-within}
 use Rattle.parameter.specs.Parameter.{two_at, four_in, number_in}
 use Rattle.parameter.specs.Walk.{valued}

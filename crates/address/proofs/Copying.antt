@@ -6,7 +6,7 @@ use mathlib.Core.List.{List, [], ◌∷◌, ◌++◌, map, map-append}
 use native.Mathlib.Omega.{arith}
 use lib.ListN.{length, drop, length-append, length-take, length-drop}
 use borrow.Rule.Slice.PartMut.{mid_of, put_mid}
-use Rattle.bcd.specs.Outcome.{Outcome, accepted, refused, bounded, Octets, most, Delivered, deliver}
+use Rattle.bcd.specs.Outcome.{accepted, refused, bounded, Octets, most, Delivered, deliver}
 use Rattle.bcd.proofs.Outcomes.{mapped_inv, octets_at}
 use Rattle.bcd.proofs.Writing.{Begun, untouched, extend, delivered}
 use Rattle.parameter.specs.Parameter.{Param, run_octets, run_length, most_value, encode_param, two_at}

@@ -24,7 +24,7 @@ use Rattle.address.proofs.Others.{count_known}
 use Rattle.address.proofs.Unknown.{alike, subs-same}
 use Rattle.address.proofs.Planning.{param_of, code_param, sub_one, rest, kept-written, others-sum}
 use Rattle.address.proofs.Plans.{plan_octets, wire_length_lem}
-use Rattle.address.proofs.Putting.{delivered_inv, delivered_never}
+use Rattle.address.proofs.Putting.{delivered_never}
 use Rattle.address.proofs.Copying.{others_of, done-octets, lent_length}
 
 -- The four octets in front.

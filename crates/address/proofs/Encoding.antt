@@ -1,7 +1,7 @@
 -- An address that is given by its record: when it is refused, its length, and its octets.
 use Prim.Native.Nat.{ℕ, ◌+◌, ◌-◌, ◌≤◌, ◌<◌}
 use mathlib.Core.Path.{◌≡◌, refl, sym, ap, ◌∙◌}
-use Rattle.std.specs.Prelude.{Option, None, Some, option_map, is_some}
+use Rattle.std.specs.Prelude.{Option, None, Some, option_map}
 use mathlib.Core.List.{List, [], ◌∷◌, ◌++◌, append_assoc}
 use native.Mathlib.Omega.{arith}
 use borrow.Author.Tests.{le-leb, lt-leb, leb-true}
@@ -12,7 +12,7 @@ use Rattle.bcd.specs.Outcome.{Outcome, accepted, refused, after, mapped, each, A
 use Rattle.bcd.specs.Digits.{built_in}
 use Rattle.bcd.proofs.Outcomes.{accepted_inj, never, after_inv, mapped_inv, demand_inv, mapped-demand, each_inv, each_append, deliver_buffer}
 use Rattle.bcd.proofs.Writing.{Begun}
-use Rattle.parameter.specs.Parameter.{Param, param, four, run_octets, run_length, most_value, encode_param, encode_params, Sized}
+use Rattle.parameter.specs.Parameter.{Param, param, run_octets, run_length, most_value, encode_param, encode_params, Sized}
 use Rattle.parameter.specs.Table.{Table, records}
 use Rattle.parameter.proofs.RoundTrip.{run_length_lem, run_length-append, encode_accepts, encode_inv, encode_params_accepts}
 use Rattle.address.specs.Address.{indicator, pieces, sized, write_address}

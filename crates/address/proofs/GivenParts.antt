@@ -1,16 +1,16 @@
 -- The parts of an address that is given by its record: what a title takes on the wire, and each part's octets.
-use Prim.Native.Nat.{ℕ, ◌+◌, ◌-◌, ◌*◌, ◌/◌, ◌≤◌, ◌<◌}
+use Prim.Native.Nat.{ℕ, ◌+◌, ◌-◌, ◌≤◌, ◌<◌}
 use mathlib.Core.Path.{◌≡◌, refl, sym, ap, ◌∙◌}
 use mathlib.Core.Bool.{Bool, true, false}
-use Rattle.std.specs.Prelude.{Option, None, Some, option_map, is_some}
-use mathlib.Core.List.{List, [], ◌∷◌, ◌++◌, append-nil}
+use Rattle.std.specs.Prelude.{Option, None, Some, option_map}
+use mathlib.Core.List.{List, [], ◌∷◌, append-nil}
 use native.Mathlib.Omega.{arith}
 use borrow.Author.Tests.{le-leb, lt-leb, leb-true}
 use borrow.Rule.Slice.PartMut.{mid_of, put_mid}
 use lib.Dec.{leb}
 use lib.ListN.{length, take, drop, length-take, length-drop}
 use lib.Seq.{length-take-le}
-use Rattle.bcd.specs.Outcome.{Outcome, accepted, refused, pick, after, demand, mapped, each, Delivered, deliver}
+use Rattle.bcd.specs.Outcome.{Outcome, accepted, refused, after, demand, mapped, each, Delivered, deliver}
 use Rattle.bcd.specs.Digits.{built_in, write_digits}
 use Rattle.bcd.proofs.Outcomes.{accepted_inj, never, mapped_inv, deliver_refused, deliver_buffer, deliver_answer}
 use Rattle.bcd.proofs.Writing.{extend, delivered}

@@ -9,7 +9,7 @@ use lib.Dec.{leb}
 use lib.ListN.{length, get_or}
 use Rattle.bcd.specs.Outcome.{Outcome, accepted, refused, Octets, most}
 use Rattle.bcd.specs.Digits.{built_in}
-use Rattle.bcd.proofs.Outcomes.{accepted_inj, never, after_inv, mapped_inv, demand_inv, bounded-within}
+use Rattle.bcd.proofs.Outcomes.{accepted_inj, never, after_inv, mapped_inv, demand_inv}
 use Rattle.parameter.specs.Parameter.{two_at}
 use Rattle.parameter.specs.Walk
 use Rattle.parameter.specs.Walk.{valued, places}

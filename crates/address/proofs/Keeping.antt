@@ -15,9 +15,8 @@ use Rattle.bcd.specs.Outcome.{Outcome, accepted, refused, pick, after, mapped, e
 use Rattle.bcd.specs.Digits.{Alphabet}
 use Rattle.bcd.proofs.Outcomes.{le_or_lt}
 use Rattle.parameter.specs.Parameter.{four_in}
-use Rattle.parameter.specs.Walk.{valued, places}
+use Rattle.parameter.specs.Walk.{valued}
 use Rattle.parameter.specs.declared.Place.{Place}
-use Rattle.parameter.proofs.Walking.{steps_induct}
 use Rattle.parameter.proofs.Records.{value-length}
 use Rattle.address.specs.Address.{title_at, title_in, four_octets, Piece, title, code, sub, other, piece_in, later, last}
 use Rattle.address.specs.Parts.{sooner, noted_title, noted_code, noted_ssn, noted_other, noted, note_all}

@@ -1,8 +1,7 @@
 -- An address value that was interpreted: how many octets it is written as, and when it is refused.
-use Prim.Native.Nat.{ℕ, ◌+◌, ◌-◌, ◌*◌, ◌/◌, ◌≤◌, ◌<◌}
+use Prim.Native.Nat.{ℕ, ◌+◌, ◌-◌, ◌≤◌}
 use mathlib.Core.Path.{◌≡◌, refl, sym, ap, ap₂, ◌∙◌}
 use mathlib.Core.Bool.{Bool, true, false}
-use mathlib.Core.Logic.{◌⊎◌, inl, inr}
 use Rattle.std.specs.Prelude.{Option, None, Some, option_map, is_some}
 use mathlib.Core.List.{List, [], ◌∷◌, ◌++◌, map, append-nil}
 use native.Mathlib.Omega.{arith}
@@ -12,7 +11,7 @@ use lib.ListN.{length, get_or, take, drop, length-drop}
 use lib.Seq.{take_all}
 use Rattle.bcd.specs.Outcome.{Outcome, accepted, refused, pick, after, mapped, each, All, Octets, most}
 use Rattle.bcd.specs.Digits.{Alphabet, Lawful, built_in, digits_in, read_digits, write_digits}
-use Rattle.bcd.proofs.Outcomes.{accepted_inj, never, le_or_lt, mapped_inv, demand_inv, bounded-within, each_append}
+use Rattle.bcd.proofs.Outcomes.{accepted_inj, never, mapped_inv, demand_inv, bounded-within, each_append}
 use Rattle.bcd.proofs.Characters.{built_in_lawful}
 use Rattle.bcd.proofs.Writable.{write_inv}
 use Rattle.parameter.specs.Parameter.{Param, four, four_in, padded_length, run_length, two_at}

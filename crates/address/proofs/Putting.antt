@@ -5,18 +5,17 @@ use mathlib.Core.Bool.{Bool, true, false}
 use Rattle.std.specs.Prelude.{Some}
 use mathlib.Core.List.{List, [], ◌∷◌, ◌++◌, append-nil}
 use native.Mathlib.Omega.{arith}
-use borrow.Author.Tests.{leb-true, lt-leb, leb-false}
+use borrow.Author.Tests.{leb-true}
 use lib.Dec.{leb}
 use lib.ListN.{length, get_or, take, drop, length-take, length-drop}
 use lib.Seq.{take-take}
 use Rattle.bcd.specs.Outcome.{Outcome, accepted, refused, pick, mapped, each, Octets, Delivered, deliver}
 use Rattle.bcd.specs.Digits.{built_in}
-use Rattle.bcd.proofs.Outcomes.{accepted_inj, never, deliver_refused, deliver-short, deliver_answer, all_take, all_drop}
+use Rattle.bcd.proofs.Outcomes.{accepted_inj, never, deliver_answer, all_take, all_drop}
 use Rattle.bcd.proofs.Writing.{untouched, delivered}
-use Rattle.parameter.specs.Parameter.{Param, param, four, four_in, two_at, padded_length, param_octets, run_octets, most_value, encode_param}
+use Rattle.parameter.specs.Parameter.{Param, param, four, four_in, two_at, param_octets, run_octets, most_value, encode_param}
 use Rattle.parameter.specs.Walk.{valued}
 use Rattle.parameter.specs.declared.Place.{Place}
-use Rattle.parameter.proofs.RoundTrip.{octets-length}
 use Rattle.parameter.proofs.Encoding.{encode_within}
 use Rattle.address.specs.Address.{title_at, title, code, sub, present, sub_param}
 use Rattle.address.specs.Again.{with_unknown}

@@ -14,7 +14,6 @@ use Rattle.address.specs.Address.{Address, read_address}
 use Rattle.address.specs.Listing.{other_places, address_record, Listed, listed, list_address}
 use Rattle.address.specs.Steps.Plan.{Read}
 use Rattle.address.specs.Standing.{ListsAs}
-use Rattle.address.specs.declared.SuaAddress.{SuaAddress}
 use Rattle.address.specs.declared.parts.Parts.{Parts}
 use Rattle.address.proofs.Interpreted.{address, read_whole, accepted_read}
 use Rattle.address.proofs.AddressRecords.{address_back}

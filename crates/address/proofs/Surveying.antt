@@ -6,7 +6,7 @@ use mathlib.Core.List.{List, [], ◌∷◌, ◌++◌}
 use native.Mathlib.Omega.{arith}
 use lib.Dec.{eqb, leb}
 use lib.ListN.{length}
-use Rattle.bcd.specs.Outcome.{Outcome, accepted, refused, pick, mapped, bounded, most}
+use Rattle.bcd.specs.Outcome.{accepted, refused, pick, mapped, bounded, most}
 use Rattle.bcd.proofs.Outcomes.{mapped-demand}
 use Rattle.parameter.specs.Parameter.{padded_length}
 use Rattle.parameter.specs.Walk.{ended, found, step_at, places}

@@ -7,7 +7,7 @@ use mathlib.Core.List.{List, [], ◌∷◌, map}
 use native.Mathlib.Omega.{arith}
 use borrow.Author.Tests.{le-leb}
 use lib.ListN.{length, get_or, drop, length-map}
-use Rattle.bcd.specs.Outcome.{Outcome, accepted, pick, after, mapped, All, Octets}
+use Rattle.bcd.specs.Outcome.{Outcome, accepted, pick, after, All, Octets}
 use Rattle.bcd.specs.Digits.{built_in}
 use Rattle.bcd.proofs.Outcomes.{accepted_inj, after_inv, mapped_inv, all_take, all_drop, octets_at}
 use Rattle.bcd.proofs.Digits.{read_at_most}
@@ -17,8 +17,8 @@ use Rattle.parameter.specs.Table.{Table, Tabulated, tabulate, records}
 use Rattle.parameter.specs.declared.Place.{Place}
 use Rattle.parameter.proofs.Walking.{places_inside}
 use Rattle.parameter.proofs.Stored.{stored-records}
-use Rattle.address.specs.Address.{Title, title_at, Address, address_with, read_address, write_address}
-use Rattle.address.specs.Records.{title_of, part_given, address_of, address_given}
+use Rattle.address.specs.Address.{Title, Address, address_with, read_address, write_address}
+use Rattle.address.specs.Records.{title_of, part_given, address_given}
 use Rattle.address.specs.Titles.{record_of}
 use Rattle.address.specs.Listing.{is_other, other_places, address_places, address_record, Listed, listed, list_address}
 use Rattle.address.specs.Given.{encode_address_as, encode_address}

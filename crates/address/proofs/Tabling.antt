@@ -1,20 +1,20 @@
 -- The places of the other sub-parameters, stored in a lent table by a walk: how far it has come.
 use Prim.Native.Nat.{ℕ, suc, ◌+◌, ◌≤◌, ◌<◌}
-use mathlib.Core.Path.{◌≡◌, refl, sym, ap, ◌∙◌, subst}
+use mathlib.Core.Path.{◌≡◌, refl, sym, ap, ◌∙◌}
 use mathlib.Core.Bool.{Bool, true, false}
 use mathlib.Core.List.{List, [], ◌∷◌, ◌++◌, append_assoc, append-nil}
 use native.Mathlib.Omega.{arith}
 use borrow.Author.Tests.{le-leb, lt-leb}
 use lib.ListN.{length, get_or, set, drop, length-append, length-drop}
 use lib.Seq.{drop-cons, set_at}
-use Rattle.bcd.specs.Outcome.{Outcome, accepted, refused, pick, after, mapped, bounded, most}
+use Rattle.bcd.specs.Outcome.{Outcome, accepted, refused, pick, mapped, bounded, most}
 use Rattle.bcd.specs.Digits.{built_in}
 use Rattle.bcd.proofs.Outcomes.{accepted_inj}
 use Rattle.parameter.specs.Walk.{found, step_at, places}
 use Rattle.parameter.specs.Table.{Table, Tabulated, tabulated, over, tabulate}
 use Rattle.parameter.specs.declared.Place.{Place}
 use Rattle.parameter.proofs.Reaching.{Reached, reached_start, walk_more}
-use Rattle.address.specs.Address.{Address, read_address}
+use Rattle.address.specs.Address.{read_address}
 use Rattle.address.specs.Listing.{is_other, other_places, address_places, address_record, listed, list_address}
 use Rattle.address.specs.Steps.Plan.{Walked, Read, HasRow, rowed}
 use Rattle.address.specs.declared.SuaAddress.{SuaAddress}

@@ -19,7 +19,6 @@ use Rattle.address.specs.Records.{title_of, title_given, title_record}
 use Rattle.address.specs.Titles.{zeros, record_of}
 use Rattle.address.specs.Lengths.{title_length}
 use Rattle.address.specs.declared.GlobalTitle.{GlobalTitle}
-use Rattle.address.proofs.Planning.{whole_part}
 use Rattle.address.proofs.Copying.{lent_length}
 use Rattle.address.proofs.Lending.{lent_refused, lent_accepted, refusal_same, short-first, front_kept, front-written}
 

@@ -8,11 +8,11 @@ use lib.Seq.{take-add, take-suc, set_at, get_or_at, length-take-le}
 use native.Mathlib.Numerals.{add-one}
 use Rattle.bcd.specs.Outcome.{Outcome, accepted, refused, mapped, Octets, deliver}
 use Rattle.bcd.specs.Digits.{halves, pack, built_in, digits_in, write_digits}
-use Rattle.bcd.proofs.Outcomes.{accepted_inj, octets_at, all_drop}
+use Rattle.bcd.proofs.Outcomes.{octets_at, all_drop}
 use Rattle.bcd.proofs.Reading.{digits-length, digits-most}
 use Rattle.bcd.proofs.Rewriting.{octets_even, octets_odd, halves-packed}
 use Rattle.bcd.proofs.Writing.{begin, delivered}
-use Rattle.parameter.specs.Parameter.{Param, param, two, padded_length, param_octets, run_octets, run_length, most_value, encode_param}
+use Rattle.parameter.specs.Parameter.{Param, param, two, padded_length, param_octets, run_octets, encode_param}
 use Rattle.parameter.proofs.RoundTrip.{octets-length}
 use Rattle.parameter.proofs.Encoding.{encode_within}
 use Rattle.address.specs.Address.{title_at, write_title, title, sub_param}

@@ -3,9 +3,8 @@ use mathlib.Core.Path.{ap, ◌∙◌}
 use Prim.Native.Nat.{ℕ}
 use mathlib.Core.List.{List}
 use lib.ListN.{get_or}
-use Rattle.bcd.specs.Outcome.{Outcome, mapped}
+use Rattle.bcd.specs.Outcome.{mapped}
 use Rattle.bcd.specs.Digits.{built_in, digits_record, read_digits}
-use Rattle.bcd.proofs.Results.{exit_as}
 use Rattle.address.proofs.Planning.{whole_part}
 use Rattle.address.proofs.TitleRecords.{title_beyond, title_few, title_done, title_never}
 use Rattle.address.proofs.GlobalTitle.decode.Goals as goal

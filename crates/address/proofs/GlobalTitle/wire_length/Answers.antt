@@ -1,5 +1,5 @@
 -- `address::GlobalTitle::wire_length` meets its contract.
-use Prim.Native.Nat.{ℕ, ◌+◌}
+use Prim.Native.Nat.{◌+◌}
 use mathlib.Core.Path.{◌≡◌, ◌∙◌}
 use native.Mathlib.Omega.{arith}
 use Rattle.bcd.proofs.Results.{exit}

@@ -1,5 +1,5 @@
 -- `address::SuaAddress::decode` meets its contract.
-use mathlib.Core.Path.{◌≡◌, sym, ap, ◌∙◌}
+use mathlib.Core.Path.{sym}
 use Rattle.bcd.proofs.Outcomes.{octets-of}
 use Rattle.bcd.proofs.Results.{exit}
 use Rattle.address.proofs.Interpreted.{interpreted-read, interpreted_refused}

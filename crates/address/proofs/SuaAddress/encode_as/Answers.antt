@@ -1,6 +1,6 @@
 -- `address::SuaAddress::encode_as` meets its contract.
 use Prim.Native.Nat.{ℕ}
-use mathlib.Core.Path.{◌≡◌, sym, ap, ◌∙◌}
+use mathlib.Core.Path.{ap}
 use mathlib.Core.List.{[], ◌∷◌}
 use Rattle.bcd.specs.Outcome.{Outcome, refused, after}
 use Rattle.bcd.proofs.Results.{exit}

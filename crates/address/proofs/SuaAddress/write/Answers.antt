@@ -1,18 +1,16 @@
 -- `address::SuaAddress::write` meets its contract: the buffer after each part.
 use Prim.Native.Nat.{ℕ, ◌+◌, ◌-◌, ◌≤◌}
 use mathlib.Core.Path.{◌≡◌, refl, ap, ◌∙◌}
-use mathlib.Core.List.{List, [], ◌∷◌, ◌++◌}
+use mathlib.Core.List.{List, ◌++◌}
 use native.Mathlib.Omega.{arith}
 use lib.ListN.{length, drop}
 use borrow.Rule.Slice.PartMut.{mid_of, put_mid, same_len_mid}
-use Rattle.std.specs.Prelude.{option_map}
 use Rattle.bcd.specs.Outcome.{Outcome, accepted, mapped, deliver}
 use Rattle.bcd.proofs.Results.{exit}
 use Rattle.parameter.specs.Parameter.{Param, four, run_octets}
 use Rattle.parameter.specs.Table.{Table}
 use Rattle.address.specs.Steps.GivenParts.{given_title, sub_value, given_param, given_head, room_for}
 use Rattle.address.specs.declared.SuaAddress.{SuaAddress}
-use Rattle.address.proofs.Putting.{delivered_never}
 use Rattle.address.proofs.Delivering.{Wrote, wrote, wrote_never}
 use Rattle.address.proofs.Encoding.{codes_of, subs_of, given_one, Known, given_never, given-done}
 use Rattle.address.proofs.TitleFirst.{room_inv, title_lent, room_declined, room-written, placed, Headed, headed}

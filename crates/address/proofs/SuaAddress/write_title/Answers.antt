@@ -1,8 +1,5 @@
 -- `address::SuaAddress::write_title` meets its contract.
-use mathlib.Core.Path.{◌≡◌, ap, ◌∙◌}
-use native.Mathlib.Omega.{arith}
 use Rattle.bcd.proofs.Results.{exit}
-use Rattle.address.specs.Steps.GivenParts.{title_room, Roomed}
 use Rattle.address.proofs.Putting.{none_delivered}
 use Rattle.address.proofs.GivenParts.{title_room_lem, title_declined, title_put}
 use Rattle.address.proofs.SuaAddress.write_title.Goals as goal

@@ -1,5 +1,5 @@
 -- `address::decode::list_others` meets its contract: the loop has stored the others that the walk has come to.
-use mathlib.Core.Path.{◌≡◌, sym, ap, ◌∙◌, subst}
+use mathlib.Core.Path.{sym, ap, ◌∙◌, subst}
 use Prim.Native.Nat.{ℕ}
 use Rattle.bcd.proofs.Outcomes.{never, bounded-within}
 use Rattle.parameter.specs.Walk.{places}

@@ -1,7 +1,6 @@
 -- `address::decode::title_in` meets its contract.
-use mathlib.Core.Path.{◌≡◌, ap, ◌∙◌}
-use Rattle.std.specs.Prelude.{Some}
-use Rattle.bcd.specs.Outcome.{accepted, mapped}
+use mathlib.Core.Path.{ap, ◌∙◌}
+use Rattle.bcd.specs.Outcome.{mapped}
 use Rattle.bcd.specs.Digits.{built_in}
 use Rattle.bcd.proofs.Outcomes.{accepted_inj, never}
 use Rattle.address.specs.Address.{read_title}

@@ -1,14 +1,13 @@
 -- `address::encode::length_with` meets its contract.
-use Prim.Native.Nat.{ℕ, ◌+◌}
+use Prim.Native.Nat.{◌+◌}
 use mathlib.Core.Path.{◌≡◌, sym, ap, ◌∙◌}
 use mathlib.Core.Bool.{Bool}
-use mathlib.Core.List.{List, [], map}
+use mathlib.Core.List.{[], map}
 use native.Mathlib.Omega.{arith}
-use lib.ListN.{length, take}
-use Rattle.bcd.specs.Outcome.{accepted, refused, pick, after, mapped, each, fit64}
+use lib.ListN.{take}
+use Rattle.bcd.specs.Outcome.{accepted, refused, pick, fit64}
 use Rattle.bcd.specs.Answers.{outcome_of}
 use Rattle.bcd.proofs.Results.{exit}
-use Rattle.parameter.specs.Parameter.{encode_param}
 use Rattle.parameter.specs.Walk.{valued}
 use Rattle.parameter.specs.Table.{records}
 use Rattle.parameter.proofs.Records.{told_outside}

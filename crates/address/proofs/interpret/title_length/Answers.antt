@@ -1,14 +1,11 @@
 -- `address::interpret::title_length` meets its contract.
-use mathlib.Core.Path.{◌≡◌, sym, ap, ◌∙◌}
-use Prim.Native.Nat.{ℕ, ◌+◌}
+use mathlib.Core.Path.{◌≡◌, ◌∙◌}
+use Prim.Native.Nat.{◌+◌}
 use native.Mathlib.Omega.{arith}
 use Rattle.std.specs.Prelude.{Some}
-use Rattle.bcd.specs.Outcome.{mapped}
-use Rattle.bcd.specs.Digits.{built_in, write_digits}
 use Rattle.bcd.proofs.Results.{exit}
 use Rattle.parameter.specs.Parameter.{padded_length, run_length}
 use Rattle.parameter.proofs.Records.{value-length}
-use Rattle.address.specs.Address.{title_at}
 use Rattle.address.specs.Steps.Plan.{HeldIn, digits_by}
 use Rattle.address.proofs.Planning.{digits_few, kept_sized}
 use Rattle.address.proofs.Unknown.{alike}

@@ -1,5 +1,5 @@
 -- `address::parts::survey` meets its contract: the loop has kept the parts of the sub-parameters that the walk has come to.
-use mathlib.Core.Path.{◌≡◌, sym, ap, ◌∙◌, subst}
+use mathlib.Core.Path.{sym, ap, ◌∙◌, subst}
 use Prim.Native.Nat.{ℕ}
 use Rattle.bcd.proofs.Results.{exit}
 use Rattle.parameter.specs.declared.Parameters.{Parameters}

@@ -1,6 +1,6 @@
 -- `address::rewrite::write` meets its contract: the buffer after each part.
 use Prim.Native.Nat.{ℕ, ◌+◌, ◌-◌, ◌≤◌}
-use mathlib.Core.Path.{◌≡◌, refl, ap, ◌∙◌}
+use mathlib.Core.Path.{◌≡◌, refl}
 use mathlib.Core.List.{List, ◌++◌}
 use native.Mathlib.Omega.{arith}
 use lib.ListN.{length, drop}
@@ -16,7 +16,6 @@ use Rattle.address.specs.Steps.Plan.{Plan, head_octets, others_octets}
 use Rattle.address.specs.declared.parts.Parts.{Parts}
 use Rattle.address.proofs.Planning.{sound, code-params, sub-params}
 use Rattle.address.proofs.Putting.{delivered_inv, delivered_never}
-use Rattle.address.proofs.Copying.{lent_length}
 use Rattle.address.proofs.Delivering.{Wrote, wrote, wrote_never, planned-pieces, codes, subs, others_room, planned-length, planned-done, planned_none}
 use Rattle.address.proofs.rewrite.write.Goals as goal
 

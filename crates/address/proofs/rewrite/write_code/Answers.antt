@@ -1,6 +1,4 @@
 -- `address::rewrite::write_code` meets its contract.
-use mathlib.Core.Path.{◌≡◌, refl, sym, ap, ◌∙◌}
-use native.Mathlib.Omega.{arith}
 use Rattle.bcd.proofs.Outcomes.{octets-of}
 use Rattle.parameter.proofs.Running.{part_of}
 use Rattle.address.proofs.Putting.{none_delivered, code_put}

@@ -1,6 +1,5 @@
 -- `address::rewrite::write_head` meets its contract.
 use mathlib.Core.Path.{◌∙◌}
-use native.Mathlib.Omega.{arith}
 use lib.ListN.{drop}
 use Rattle.address.proofs.Delivering.{head_octets_lem}
 use Rattle.address.proofs.rewrite.write_head.Goals as goal

@@ -1,5 +1,5 @@
 -- `address::rewrite::write_other` meets its contract.
-use mathlib.Core.Path.{◌≡◌, sym, ap, ◌∙◌}
+use mathlib.Core.Path.{sym, ◌∙◌}
 use Rattle.address.proofs.Copying.{other_put, other_absent}
 use Rattle.address.proofs.rewrite.write_other.Goals as goal
 

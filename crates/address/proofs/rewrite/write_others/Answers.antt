@@ -1,12 +1,12 @@
 -- `address::rewrite::write_others` meets its contract: the loop has written the others that the walk has come to.
-use mathlib.Core.Path.{◌≡◌, sym, ap, ◌∙◌, subst}
+use mathlib.Core.Path.{sym, ap, ◌∙◌, subst}
 use Prim.Native.Nat.{ℕ}
 use native.Mathlib.Omega.{arith}
 use Rattle.bcd.proofs.Outcomes.{never, bounded-within}
 use Rattle.parameter.specs.Walk.{places}
 use Rattle.parameter.specs.declared.Parameters.{Parameters}
 use Rattle.parameter.proofs.Reaching.{walk_refused, reached_end, walk_step}
-use Rattle.address.proofs.Copying.{Copying, copying_start, other_small, copying_never, copying_next, copying_few, copied, lent_length}
+use Rattle.address.proofs.Copying.{Copying, copying_start, other_small, copying_never, copying_next, copying_few, copied}
 use Rattle.address.proofs.rewrite.write_others.Goals as goal
 
 pub loop-place-init : goal.loop-place-init

@@ -1,5 +1,4 @@
 -- `address::rewrite::write_ssn` meets its contract.
-use mathlib.Core.Path.{◌≡◌, refl, sym, ap, ◌∙◌}
 use Rattle.address.proofs.Putting.{none_delivered, sub_put}
 use Rattle.address.proofs.rewrite.write_ssn.Goals as goal
 

@@ -1,8 +1,7 @@
 -- `address::rewrite::write_title` meets its contract.
-use mathlib.Core.Path.{◌≡◌, sym, ap, ◌∙◌}
+use mathlib.Core.Path.{sym, ap, ◌∙◌}
 use native.Mathlib.Omega.{arith}
 use mathlib.Core.List.{List}
-use Prim.Native.Nat.{ℕ}
 use Rattle.std.specs.Prelude.{Some}
 use Rattle.bcd.specs.Outcome.{Outcome, mapped, deliver}
 use Rattle.parameter.specs.Parameter.{Param, run_octets}

@@ -1,5 +1,5 @@
 -- Octets stored from a position on, as many of them as the slice has places for.
-use Prim.Native.Nat.{ℕ, suc, ◌+◌, ◌≤◌, ◌<◌}
+use Prim.Native.Nat.{ℕ, suc, ◌+◌, ◌/◌, ◌%◌, ◌^◌, ◌≤◌, ◌<◌}
 use mathlib.Core.Path.{◌≡◌, refl, sym, ap, ◌∙◌, subst}
 use mathlib.Core.Bool.{Bool, true, false}
 use mathlib.Core.List.{List, [], ◌∷◌, ◌++◌, append_assoc, append-nil}
@@ -9,7 +9,10 @@ use native.Mathlib.Numerals.{add-one}
 use lib.ListN.{length, get_or, set, take, length-append, length-set}
 use lib.Seq.{take-suc}
 use borrow.Author.Tests.{lt-ltb, le-ltb}
+use Rattle.std.specs.Int.{to_be_bytes}
+use mir.Syntax.{w16, w32}
 use Rattle.bcd.specs.Outcome.{pick}
+use Rattle.parameter.specs.Parameter.{two, four}
 use Rattle.bcd.proofs.Writing.{Begun, store}
 use Rattle.flat.specs.declared.writer.Writer.{Writer}
 use Rattle.flat.specs.Steps.Emitting.{stored, emit, Writes}
@@ -92,3 +95,14 @@ emit_begun {out} {p} {d} at (v ∷ os) b n h =
     let one = subst (λ (e : List ℕ). Begun out (p ++ (v ∷ [])) e) (sym here) (store at v b n (omega arith)) in
     subst (λ (q : List ℕ). Begun out q (emit (stored d at v) (at + 1) os)) (append_assoc p (v ∷ []) os)
     (emit_begun {p = p ++ (v ∷ [])} (at + 1) os one (rw length-append (omega arith)) (omega arith))
+
+-- the octets of a number of 32 bits, the high one first
+pub four_bytes : (n : ℕ) → n < 2 ^ 32 → to_be_bytes w32 n ≡ four n
+four_bytes n h =
+    let a : n / 16777216 % 256 ≡ n / 65536 / 256 = omega (arith, h) in
+    let c : n / 256 % 256 ≡ n % 65536 / 256 = omega arith in
+    let d : n % 256 ≡ n % 65536 % 256 = omega arith in
+    rw (a, c, d) refl
+
+pub two_bytes : (n : ℕ) → n < 2 ^ 16 → to_be_bytes w16 n ≡ two n
+two_bytes n h = let a : n / 256 % 256 ≡ n / 256 = omega (arith, h) in rw a refl

@@ -1,23 +1,23 @@
 -- The places of the other sub-parameters, stored one after the other.
-use Prim.Native.Nat.{ℕ, ◌+◌, ◌*◌, ◌≤◌, ◌<◌}
+use Prim.Native.Nat.{ℕ, ◌+◌, ◌*◌, ◌≤◌}
 use mathlib.Core.Path.{◌≡◌, refl, sym, ap, ◌∙◌, subst}
-use mathlib.Core.List.{List, [], ◌∷◌, ◌++◌, map, map-append, append_assoc}
+use mathlib.Core.Bool.{true, false}
+use mathlib.Core.List.{List, [], ◌∷◌, ◌++◌, map, map-append, append_assoc, append-nil}
 use native.Mathlib.Omega.{arith}
 use lib.ListN.{length, length-map}
-use Rattle.bcd.specs.Outcome.{accepted}
+use Rattle.bcd.specs.Outcome.{accepted, bounded}
+use Rattle.bcd.proofs.Outcomes.{bounded-within}
 use Rattle.parameter.specs.declared.Place.{Place}
-use Rattle.parameter.specs.Walk.{found, step_at, places}
-use Rattle.parameter.proofs.Reaching.{Reached, reached_start, reached_next}
-use Rattle.address.specs.Listing.{other_places}
+use Rattle.parameter.specs.Walk.{ended, found, step_at, places}
+use Rattle.parameter.proofs.Reaching.{Reached, reached_start, walk_within, walk_found, walk_more, walk_end}
+use Rattle.address.specs.Listing.{is_other, other_places}
 use Rattle.address.specs.Steps.Plan.{places_in}
 use Rattle.address.proofs.Others.{others-append, others_fewer}
 use Rattle.flat.specs.Account.{place_octets, places_octets}
 use Rattle.message.specs.Accessors.{moved}
-use Rattle.flat.specs.Steps.Emitting.{Emitted}
-use Rattle.flat.proofs.Emission.{emitted_none, emitted_more}
-
-abbrev pub listed : (base : ℕ) → List Place → List ℕ
-listed base ps = places_octets (map (moved base) (other_places ps))
+use Rattle.flat.specs.declared.writer.Writer.{Writer}
+use Rattle.flat.specs.Steps.Emitting.{Writes, listed}
+use Rattle.flat.proofs.Emission.{writes_none, writes_more}
 
 octets-append : (us vs : List Place) → places_octets (us ++ vs) ≡ places_octets us ++ places_octets vs
 unfolding places_octets
@@ -38,30 +38,40 @@ octets-length (p ∷ ps) = omega (arith, octets-length ps)
 pub listed-length : (base : ℕ) (ps : List Place) → length (listed base ps) ≤ 10 * length ps
 listed-length base ps = omega (arith, octets-length (map (moved base) (other_places ps)), length-map (other_places ps) (moved base), others_fewer ps)
 
--- how far they are stored
-pub record Listing (v : List ℕ) (base : ℕ) (d : List ℕ) (at n from : ℕ) (out : List ℕ) (to : ℕ) : Type 0 where
-  pub reached : Reached v 4 n from
-  pub emitted : Emitted d at (listed base reached.done) to out
+-- how far they are stored; ten octets at most for each four behind
+pub record Listing (v : List ℕ) (base : ℕ) (a : Writer) (at : ℕ) (b : Writer) : Type 0 where
+  pub reached : Reached v 4 at
+  pub writes : Writes a (listed base reached.done) b
+  pub small : b.at + 40 ≤ a.at + 10 * at
 
-pub listing_start : (v : List ℕ) (base : ℕ) (d : List ℕ) (at : ℕ) → Listing v base d at 0 4 d at
-unfolding reached_start places_octets
-listing_start v base d at = record { reached = reached_start v 4; emitted = emitted_none d at }
+pub listing_start : (v : List ℕ) (base : ℕ) (a : Writer) → Listing v base a 4 a
+unfolding places_octets
+listing_start v base a = record { reached = reached_start v 4; writes = writes_none a; small = omega arith }
 
-module _ {v : List ℕ} {base : ℕ} {d : List ℕ} {at n from : ℕ} {out : List ℕ} {to : ℕ} (l : Listing v base d at n from out to) where
-  pub listing_few : to ≤ at + 10 * n
-  listing_few = omega (arith, l.emitted.behind, listed-length base l.reached.done, l.reached.counted)
-
+module _ {v : List ℕ} {base : ℕ} {a b : Writer} {at : ℕ} (l : Listing v base a at b) where
   pub listing_more :
-      (p : Place) (next : ℕ) {end : ℕ} {last : List ℕ}
-      → n < length v
-      → step_at v from ≡ accepted (found p next)
-      → Emitted out to (listed base (p ∷ [])) end last
-      → Listing v base d at (n + 1) next last end
-  listing_more p next {end} {last} h e x =
+      (p : Place) (next : ℕ) {c : Writer}
+      → accepted (found p next) ≡ bounded v (step_at v at)
+      → Writes b (listed base (p ∷ [])) c
+      → Listing v base a next c
+  listing_more p next {c} e x =
+      let f = walk_found v at e in
       record {
-        reached = reached_next l.reached h p next e;
-        emitted = subst (λ (os : List ℕ). Emitted d at os end last) (sym (listed-append base l.reached.done (p ∷ []))) (emitted_more l.emitted x);
+        reached = walk_more l.reached p next e;
+        writes = subst (λ (os : List ℕ). Writes a os c) (sym (listed-append base l.reached.done (p ∷ []))) (writes_more l.writes x);
+        small = omega (arith, l.small, x.behind, listed-length base (p ∷ []), f.forward);
       }
 
-  pub listing_done : places v 4 ≡ accepted l.reached.done → Emitted d at (listed base (places_in (places v 4))) to out
-  listing_done e = rw e l.emitted
+  pub listing_done : accepted ended ≡ bounded v (step_at v at) → Writes a (listed base (places_in (places v 4))) b
+  listing_done e =
+      let w = sym (bounded-within v (places v 4) (walk_within v at e)) ∙ walk_end l.reached e in
+      rw w l.writes
+
+-- another sub-parameter, or none
+pub other_there : {a b : Writer} (base : ℕ) (p : Place) → is_other p.tag ≡ true → Writes a (place_octets (moved base p)) b → Writes a (listed base (p ∷ [])) b
+unfolding places_octets
+other_there base p t x = rw (t, append-nil) x
+
+pub other_none : (a : Writer) (base : ℕ) (p : Place) → is_other p.tag ≡ false → Writes a (listed base (p ∷ [])) a
+unfolding places_octets
+other_none a base p t = rw t (writes_none a)

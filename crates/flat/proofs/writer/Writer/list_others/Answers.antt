@@ -1,0 +1,69 @@
+-- `flat::writer::Writer::list_others` meets its contract.
+use mathlib.Core.Path.{◌≡◌, sym, ◌∙◌}
+use native.Mathlib.Omega.{arith}
+use Rattle.bcd.proofs.Outcomes.{never, bounded-within}
+use Rattle.parameter.specs.Walk.{places}
+use Rattle.parameter.proofs.Reaching.{walk_found, walk_refused}
+use Rattle.flat.proofs.OtherPlaces.{listing_start, listing_more, listing_done, other_there, other_none}
+use Rattle.flat.proofs.writer.Writer.list_others.Goals as goal
+
+pub loop-place-init : goal.loop-place-init
+loop-place-init c =
+    let a : c.into_iter-place-iterator.result.at ≡ 4 = cc in
+    (cc, rw a (listing_start c.args.value.now c.args.base c.args.self.now))
+
+pub returns-in_default : goal.returns-in_default
+returns-in_default c =
+    let v = c.args.value.now in
+    let i = c.loop-place.invariant in
+    let k = c.requires.read.known in
+    let s = rw (c.in_default.is, i.0) at c.in-Some.ensures.steps in
+    absurd (never (sym (sym (bounded-within v (places v 4) k.within) ∙ walk_refused i.1.reached _ _ s.1) ∙ k.walked))
+
+pub overflow_add-start : goal.overflow_add-start
+overflow_add-start c =
+    let i = c.loop-place.invariant in
+    let s = rw (c.in-Ok.is, i.0) at c.in-Some.ensures.steps in
+    let f = walk_found c.args.value.now c.loop-place.place-iterator.at s.1 in
+    omega (arith, f.inside, c.requires.value_bound)
+
+pub place-requires-clause-start_bound : goal.place-requires-clause-start_bound
+place-requires-clause-start_bound c =
+    let i = c.loop-place.invariant in
+    let s = rw (c.in-Ok.is, i.0) at c.in-Some.ensures.steps in
+    let f = walk_found c.args.value.now c.loop-place.place-iterator.at s.1 in
+    omega (arith, f.inside, c.requires.value_bound)
+
+pub place-requires-clause-length_bound : goal.place-requires-clause-length_bound
+place-requires-clause-length_bound c =
+    let i = c.loop-place.invariant in
+    let s = rw (c.in-Ok.is, i.0) at c.in-Some.ensures.steps in
+    let f = walk_found c.args.value.now c.loop-place.place-iterator.at s.1 in
+    omega (arith, f.inside, c.requires.value_bound)
+
+pub place-requires-clause-at_bound : goal.place-requires-clause-at_bound
+place-requires-clause-at_bound c =
+    let i = c.loop-place.invariant in
+    let s = rw (c.in-Ok.is, i.0) at c.in-Some.ensures.steps in
+    let f = walk_found c.args.value.now c.loop-place.place-iterator.at s.1 in
+    omega (arith, i.1.small, f.least, f.within, c.requires)
+
+pub loop-place-preserved-then-is_other : goal.loop-place-preserved-then-is_other
+loop-place-preserved-then-is_other c =
+    let i = c.loop-place.invariant in
+    let s = rw (c.in-Ok.is, i.0) at c.in-Some.ensures.steps in
+    let t = sym c.is_other.ensures ∙ c.if-is_other.true in
+    (s.0, listing_more i.1 c.in-Ok.place _ s.1 (other_there c.args.base c.in-Ok.place t c.place.ensures))
+
+pub loop-place-preserved : goal.loop-place-preserved
+loop-place-preserved c =
+    let i = c.loop-place.invariant in
+    let s = rw (c.in-Ok.is, i.0) at c.in-Some.ensures.steps in
+    let t = sym c.is_other.ensures ∙ c.if-is_other.false in
+    (s.0, listing_more i.1 c.in-Ok.place _ s.1 (other_none c.loop-place.self c.args.base c.in-Ok.place t))
+
+pub returns : goal.returns
+returns c =
+    let i = c.loop-place.invariant in
+    let s = rw i.0 at c.in-None.ensures.steps in
+    listing_done i.1 s.1

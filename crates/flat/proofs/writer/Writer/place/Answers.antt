@@ -1,0 +1,17 @@
+-- `flat::writer::Writer::place` meets its contract.
+use mathlib.Core.Path.{refl, ◌∙◌}
+use native.Mathlib.Omega.{arith}
+use Rattle.flat.specs.Account.{place_octets}
+use Rattle.flat.proofs.Emission.{writes_beyond, writes_more, two_bytes, four_bytes}
+use Rattle.flat.proofs.writer.Writer.place.Goals as goal
+
+pub returns-then-self : goal.returns-then-self
+returns-then-self c = writes_beyond c.args.self.now (place_octets c.args.place) c.if-self.true refl
+
+pub returns : goal.returns
+returns c =
+    let p = c.args.place in
+    let t = c.to_be_bytes.ensures ∙ two_bytes p.tag (omega (arith, c)) in
+    let s = c.to_be_bytes-2.ensures ∙ four_bytes p.start c.requires.start_bound in
+    let l = c.to_be_bytes-3.ensures ∙ four_bytes p.length c.requires.length_bound in
+    writes_more (writes_more (rw t at c.put.ensures) (rw s at c.put-2.ensures)) (rw l at c.put-3.ensures)

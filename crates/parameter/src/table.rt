@@ -27,13 +27,11 @@ fn store(bytes: &[u8], from: usize, rows: &mut [Place])
     requires { accepted (length rows.old) ≡ mapped length (bounded bytes.now (places bytes.now from)) }
     ensures { accepted rows.new ≡ bounded bytes.now (places bytes.now from) }
 {
-    let mut n = 0;
-    for place in Parameters::new(bytes, from) {
+    for (n, place) in Parameters::new(bytes, from).enumerate() {
         let Ok(place) = place else {
             return;
         };
         rows[n] = place;
-        n += 1;
     }
 }
 

@@ -2,5 +2,5 @@
 use Rattle.parameter.proofs.Filling.{Filling}
 use Rattle.parameter.proofs.table.store.Given as goal
 
-abbrev pub invariant-loop-place : goal.invariant-loop-place
-invariant-loop-place l = Filling l.bytes l.from l.initial.rows l.rows l.n l.place-iterator.bytes.now l.place-iterator.at
+abbrev pub invariant-loop-n : goal.invariant-loop-n
+invariant-loop-n l = Filling l.bytes l.from l.initial.rows l.rows l.n-iterator.count l.n-iterator.iter.bytes.now l.n-iterator.iter.at

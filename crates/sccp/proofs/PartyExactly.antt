@@ -76,18 +76,12 @@ title_from_lem (x ∷ plan ∷ nature ∷ xs) t =
     let ds = digits_in built_in xs t.digits.count in
     (Some (record { gti = 4; tt = x; np = plan / 16; noa = nature; digits = ds }), rw (le-leb nature 127 t.nature, digits_from (plan % 16) xs t.digits))
 
--- Point code and SSN, each if it is there: what they take, and what stands behind them.
+-- Point code and SSN, each if it is there: what they take, and the bits of a point code.
 parts_inside : (i : ℕ) (code sub : Option ℕ) (ps : List ℕ) → 1 + pick (there code) 2 0 + pick (there sub) 1 0 ≤ length (i ∷ (code_octets code ++ (sub_octets sub ++ ps)))
 parts_inside i None None ps = omega arith
 parts_inside i None (Some m) ps = omega arith
 parts_inside i (Some n) None ps = omega arith
 parts_inside i (Some n) (Some m) ps = omega arith
-
-parts_behind : (i : ℕ) (code sub : Option ℕ) (ps : List ℕ) → drop (1 + pick (there code) 2 0 + pick (there sub) 1 0) (i ∷ (code_octets code ++ (sub_octets sub ++ ps))) ≡ ps
-parts_behind i None None ps = refl
-parts_behind i None (Some m) ps = refl
-parts_behind i (Some n) None ps = refl
-parts_behind i (Some n) (Some m) ps = refl
 
 code_high : (i : ℕ) (code : Option ℕ) (ps : List ℕ) → absent_or code_small code ≡ true → there code ≡ true → get_or (i ∷ (code_octets code ++ ps)) 2 0 ≤ 63
 code_high i None ps s e = let z : ◌≡◌ {A = ℕ} 0 1 = cc in absurd (omega arith)

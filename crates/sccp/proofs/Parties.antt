@@ -3,7 +3,7 @@ use Prim.Native.Nat.{ℕ, zero, suc, ◌+◌, ◌*◌, ◌/◌, ◌%◌, ◌≤�
 use mathlib.Core.Path.{◌≡◌, refl, sym, ap, ap₂, ◌∙◌, subst}
 use mathlib.Core.Bool.{Bool, true, false, not}
 use mathlib.Core.Logic.{◌⊎◌, inl, inr, ⊎_elim}
-use Rattle.std.specs.Prelude.{Option, None, Some}
+use Rattle.std.specs.Prelude.{Option, None, Some, is_some}
 use mathlib.Core.List.{List, [], ◌∷◌, ◌++◌}
 use native.Mathlib.Omega.{arith}
 use borrow.Author.Tests.{leb-true, eqb-true}
@@ -14,15 +14,15 @@ use Rattle.bcd.proofs.Outcomes.{never, after_inv, mapped_inv, demand_inv, all_ap
 use Rattle.bcd.proofs.Below.{both, below_at}
 use Rattle.parameter.specs.Parameter.{Param}
 use Rattle.address.specs.Address.{Title, Address, bit}
-use Rattle.sccp.specs.Sccp.{there, with_parts, code_in, sub_in, title_by, sccp_in, same, absent_or, routes, included, alone, title_converts, converts, code_octets, sub_octets, title_octets, indicator, sccp_octets}
+use Rattle.sccp.specs.Sccp.{with_parts, code_in, sub_in, title_by, sccp_in, same, absent_or, routes, included, alone, title_converts, converts, code_octets, sub_octets, title_octets, indicator, sccp_octets}
 use Rattle.sccp.proofs.Parts.{code_small, HasCode, code_inv, code_back, code-octets, HasSub, sub_inv, sub_back, HeldIn, HasTitle, title_inv, title_back}
 
 -- The tests that an address passes that converts.
 pub record Passes (a : Address) : Type 0 where
   pub routing : routes a.routing ≡ true
-  pub gt : a.gt ≡ there a.title
-  pub pc : a.pc ≡ there a.code
-  pub ssn : a.ssn ≡ there a.sub
+  pub gt : a.gt ≡ is_some a.title
+  pub pc : a.pc ≡ is_some a.code
+  pub ssn : a.ssn ≡ is_some a.sub
   pub others : a.others ≡ []
   pub title : absent_or title_converts a.title ≡ true
   pub code : absent_or code_small a.code ≡ true
@@ -55,13 +55,13 @@ passes a e =
     let (i, e2) = both (included a) _ e1 in
     let (o, e3) = both (alone a.others) _ e2 in
     let (t, c) = both (absent_or title_converts a.title) _ e3 in
-    let (g, i1) = both (same a.gt (there a.title)) _ i in
-    let (p, s) = both (same a.pc (there a.code)) _ i1 in
+    let (g, i1) = both (same a.gt (is_some a.title)) _ i in
+    let (p, s) = both (same a.pc (is_some a.code)) _ i1 in
     record {
       routing = r;
-      gt = same_inv a.gt (there a.title) g;
-      pc = same_inv a.pc (there a.code) p;
-      ssn = same_inv a.ssn (there a.sub) s;
+      gt = same_inv a.gt (is_some a.title) g;
+      pc = same_inv a.pc (is_some a.code) p;
+      ssn = same_inv a.ssn (is_some a.sub) s;
       others = alone_inv a.others o;
       title = t;
       code = c;
@@ -70,9 +70,9 @@ passes a e =
 pub passed : (a : Address) → Passes a → converts a ≡ true
 unfolding converts
 passed a p =
-    let g = ap (λ (b : Bool). same b (there a.title)) p.gt ∙ same_refl (there a.title) in
-    let c = ap (λ (b : Bool). same b (there a.code)) p.pc ∙ same_refl (there a.code) in
-    let s = ap (λ (b : Bool). same b (there a.sub)) p.ssn ∙ same_refl (there a.sub) in
+    let g = ap (λ (b : Bool). same b (is_some a.title)) p.gt ∙ same_refl (is_some a.title) in
+    let c = ap (λ (b : Bool). same b (is_some a.code)) p.pc ∙ same_refl (is_some a.code) in
+    let s = ap (λ (b : Bool). same b (is_some a.sub)) p.ssn ∙ same_refl (is_some a.sub) in
     rw (p.routing, g, c, s, ap alone p.others, p.title, p.code)
 
 -- The octets of an address that converts.
@@ -213,7 +213,7 @@ parts_back i xs a h =
       title = t.converts;
       code = c.small;
     }) in
-    let first = indicator_is i (there h.code) (there h.sub) (there h.title) (leb-true i 127 h.small) in
+    let first = indicator_is i (is_some h.code) (is_some h.sub) (is_some h.title) (leb-true i 127 h.small) in
     ap sccp_octets (sym h.address)
     ∙ party_octets b h.last conv t.writes
     ∙ ap₂ (λ (i : ℕ) (xs : List ℕ). accepted (i ∷ xs))
@@ -242,9 +242,9 @@ routes_back n e = ⊎_elim (λ h. rw h) (λ h. rw h) (routes_inv n e)
 
 party_read :
     (i r : ℕ) (code sub : Option ℕ) (title : Option Title) (b : Bool) (ps : List ℕ)
-    → Flags i (there code) (there sub) (there title) b
+    → Flags i (is_some code) (is_some sub) (is_some title) b
     → absent_or code_small code ≡ true
-    → title_by (pick (there title) 4 0) ps ≡ accepted title
+    → title_by (pick (is_some title) 4 0) ps ≡ accepted title
     → pick (not b) 2 1 ≡ r
     → sccp_in (i ∷ (code_octets code ++ (sub_octets sub ++ ps))) ≡ accepted (with_parts r code sub title)
 unfolding sccp_in
@@ -272,7 +272,7 @@ write_back a os h e =
     let w = written_inv a os e in
     let p = passes a w.converts in
     let t = title_back a.title w.behind h.title p.title w.title in
-    let f = flags_back (there a.code) (there a.sub) (there a.title) (eqb a.routing 1) in
+    let f = flags_back (is_some a.code) (is_some a.sub) (is_some a.title) (eqb a.routing 1) in
     let read = party_read (indicator a) a.routing a.code a.sub a.title (eqb a.routing 1) w.behind f in
     let rest = all_append (λ (x : ℕ). x < 256) (sub_octets a.sub) w.behind h.sub t.octets in
     subst (PartyBack a) w.octets (record {

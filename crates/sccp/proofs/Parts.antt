@@ -4,7 +4,7 @@ use Prim.Native.Nat.{ℕ, ◌+◌, ◌-◌, ◌*◌, ◌/◌, ◌%◌, ◌≤◌
 use mathlib.Core.Path.{◌≡◌, refl, sym, ap, ap₂, subst}
 use mathlib.Core.Bool.{Bool, true, false}
 use mathlib.Core.Logic.{⊎_elim}
-use Rattle.std.specs.Prelude.{Option, None, Some}
+use Rattle.std.specs.Prelude.{Option, None, Some, is_some}
 use mathlib.Core.List.{List, [], ◌∷◌, ◌++◌}
 use native.Mathlib.Omega.{arith}
 use borrow.Author.Tests.{le-leb, leb-true, eqb-true}
@@ -19,7 +19,7 @@ use Rattle.bcd.proofs.Characters.{built_in_lawful}
 use Rattle.bcd.proofs.Digits.{read_at_most}
 use Rattle.address.specs.Address.{Title}
 use Rattle.address.proofs.Titles.{digit-octets}
-use Rattle.sccp.specs.Sccp.{there, code_in, sub_in, digits_of, title_in, nothing_left, title_by, absent_or, title_converts, code_octets, sub_octets, title_octets}
+use Rattle.sccp.specs.Sccp.{code_in, sub_in, digits_of, title_in, nothing_left, title_by, absent_or, title_converts, code_octets, sub_octets, title_octets}
 use Rattle.sccp.specs.Facts.{TitleConverts}
 use Rattle.sccp.proofs.Known.{known-digits}
 use Rattle.sccp.proofs.Digits.{digits_inv, digits_back, digits-read_back}
@@ -30,7 +30,7 @@ code_small n = leb n 16383
 
 -- What a point code that was read tells, and the octets behind it.
 pub record HasCode (b : Bool) (xs : List ℕ) (code : Option ℕ) (rest : List ℕ) : Type 0 where
-  pub present : there code ≡ b
+  pub present : is_some code ≡ b
   pub octets : code_octets code ++ rest ≡ xs
   pub small : absent_or code_small code ≡ true
   pub behind : Octets rest
@@ -56,7 +56,7 @@ code_inv true (low ∷ high ∷ xs) c o e =
 pub code_back :
     (code : Option ℕ) (rest : List ℕ)
     → absent_or code_small code ≡ true
-    → code_in (there code) (code_octets code ++ rest) ≡ accepted (code, rest)
+    → code_in (is_some code) (code_octets code ++ rest) ≡ accepted (code, rest)
 code_back None rest s = refl
 code_back (Some n) rest s =
     let high : n / 256 ≤ 63 = omega (arith, leb-true n 16383 s) in
@@ -69,7 +69,7 @@ code-octets (Some n) rest s o = (omega arith, (omega (arith, leb-true n 16383 s)
 
 -- What an SSN that was read tells, and the octets behind it.
 pub record HasSub (b : Bool) (xs : List ℕ) (sub : Option ℕ) (rest : List ℕ) : Type 0 where
-  pub present : there sub ≡ b
+  pub present : is_some sub ≡ b
   pub octets : sub_octets sub ++ rest ≡ xs
   pub small : Octets (sub_octets sub)
   pub behind : Octets rest
@@ -83,7 +83,7 @@ sub_inv true (n ∷ xs) s o e =
     subst (λ (s : Option ℕ × List ℕ). HasSub true (n ∷ xs) s.0 s.1) (accepted_inj e)
     (record { present = refl; octets = refl; small = (o.0, tt); behind = o.1 })
 
-pub sub_back : (sub : Option ℕ) (rest : List ℕ) → sub_in (there sub) (sub_octets sub ++ rest) ≡ accepted (sub, rest)
+pub sub_back : (sub : Option ℕ) (rest : List ℕ) → sub_in (is_some sub) (sub_octets sub ++ rest) ≡ accepted (sub, rest)
 sub_back None rest = refl
 sub_back (Some n) rest = refl
 
@@ -115,7 +115,7 @@ HeldIn (Some t) = Held t
 
 -- What a title that was read tells.
 pub record HasTitle (i : ℕ) (xs : List ℕ) (title : Option Title) : Type 0 where
-  pub present : pick (there title) 4 0 ≡ i
+  pub present : pick (is_some title) 4 0 ≡ i
   pub converts : absent_or title_converts title ≡ true
   pub writes : title_octets title ≡ accepted xs
   pub held : HeldIn title
@@ -162,7 +162,7 @@ title_inv i xs t o e =
 
 -- A title that is written is read back, from octets.
 pub record TitleBack (title : Option Title) (os : List ℕ) : Type 0 where
-  pub reads : title_by (pick (there title) 4 0) os ≡ accepted title
+  pub reads : title_by (pick (is_some title) 4 0) os ≡ accepted title
   pub octets : Octets os
   pub short : length os ≤ 131
 

@@ -8,12 +8,12 @@ use native.Mathlib.Omega.{arith}
 use borrow.Author.Tests.{le-leb, leb-true, eq-eqb, eqb-true, ne_eqb}
 use lib.Dec.{leb, eqb}
 use lib.ListN.{length, get_or, drop, length-drop}
-use Rattle.std.specs.Prelude.{Option, None, Some}
+use Rattle.std.specs.Prelude.{Option, None, Some, is_some}
 use Rattle.bcd.specs.Outcome.{Outcome, accepted, refused, pick, after, demand, mapped, Octets, most}
 use Rattle.bcd.specs.Digits.{built_in, digits_in}
 use Rattle.bcd.proofs.Outcomes.{never, after_inv, mapped_inv, demand_inv, all_drop}
 use Rattle.address.specs.Address.{Title, Address, bit, write_address}
-use Rattle.sccp.specs.Sccp.{there, with_parts, code_in, sub_in, digits_of, title_in, nothing_left, title_by, sccp_in, absent_or, code_octets, sub_octets, from_sccp}
+use Rattle.sccp.specs.Sccp.{with_parts, code_in, sub_in, digits_of, title_in, nothing_left, title_by, sccp_in, absent_or, code_octets, sub_octets, from_sccp}
 use Rattle.sccp.specs.Facts.{DigitsConvert, TitlePartConverts, title_start, PartyConverts}
 use Rattle.sccp.proofs.Known.{known-digits, digits-known}
 use Rattle.sccp.proofs.Digits.{Counted, digits_inv}
@@ -77,13 +77,13 @@ title_from_lem (x ∷ plan ∷ nature ∷ xs) t =
     (Some (record { gti = 4; tt = x; np = plan / 16; noa = nature; digits = ds }), rw (le-leb nature 127 t.nature, digits_from (plan % 16) xs t.digits))
 
 -- Point code and SSN, each if it is there: what they take, and the bits of a point code.
-parts_inside : (i : ℕ) (code sub : Option ℕ) (ps : List ℕ) → 1 + pick (there code) 2 0 + pick (there sub) 1 0 ≤ length (i ∷ (code_octets code ++ (sub_octets sub ++ ps)))
+parts_inside : (i : ℕ) (code sub : Option ℕ) (ps : List ℕ) → 1 + pick (is_some code) 2 0 + pick (is_some sub) 1 0 ≤ length (i ∷ (code_octets code ++ (sub_octets sub ++ ps)))
 parts_inside i None None ps = omega arith
 parts_inside i None (Some m) ps = omega arith
 parts_inside i (Some n) None ps = omega arith
 parts_inside i (Some n) (Some m) ps = omega arith
 
-code_high : (i : ℕ) (code : Option ℕ) (ps : List ℕ) → absent_or code_small code ≡ true → there code ≡ true → get_or (i ∷ (code_octets code ++ ps)) 2 0 ≤ 63
+code_high : (i : ℕ) (code : Option ℕ) (ps : List ℕ) → absent_or code_small code ≡ true → is_some code ≡ true → get_or (i ∷ (code_octets code ++ ps)) 2 0 ≤ 63
 code_high i None ps s e = let z : ◌≡◌ {A = ℕ} 0 1 = cc in absurd (omega arith)
 code_high i (Some n) ps s e = omega (arith, leb-true n 16383 s)
 
@@ -124,7 +124,7 @@ title_some place xs n t =
 
 title_part :
     (n : ℕ) (ys : List ℕ) (t : Option Title)
-    → pick (there t) 4 0 ≡ n
+    → pick (is_some t) 4 0 ≡ n
     → title_by n ys ≡ accepted t
     → ((n ≡ 0) × (length ys ≡ 0)) ⊎ ((n ≡ 4) × TitlePartConverts ys)
 title_part n ys None e h = inl (sym e, empty ys (rw (← e) at h))
@@ -142,7 +142,7 @@ party_to (i ∷ ys) a o e =
     let c = h.has_code in
     let s = h.has_sub in
     let joined : code_octets h.code ++ (sub_octets h.sub ++ h.last) ≡ ys = ap (λ (l : List ℕ). code_octets h.code ++ l) s.octets ∙ c.octets in
-    let start : title_start i ≡ 1 + pick (there h.code) 2 0 + pick (there h.sub) 1 0 = rw (c.present, s.present) in
+    let start : title_start i ≡ 1 + pick (is_some h.code) 2 0 + pick (is_some h.sub) 1 0 = rw (c.present, s.present) in
     let inside : title_start i ≤ length (i ∷ ys) =
     subst (λ (l : List ℕ). title_start i ≤ length (i ∷ l)) joined (rw start (parts_inside i h.code h.sub h.last)) in
     let high : bit 1 i ≡ true → get_or (i ∷ ys) 2 0 ≤ 63 =
@@ -166,8 +166,7 @@ party_from : (xs : List ℕ) → PartyConverts xs → Accepts (sccp_in xs)
 unfolding sccp_in
 party_from [] p = absurd (omega (arith, p.some))
 party_from (i ∷ ys) p =
-    let (t, h) = title_some (title_start i) (i ∷ ys) (i / 4 % 16) p.title in
-    (
+    let (t, h) = title_some (title_start i) (i ∷ ys) (i / 4 % 16) p.title in (
       with_parts (pick (bit 64 i) 2 1) (picked (bit 1 i) (code_at i ys)) (picked (bit 2 i) (get_or (i ∷ ys) (1 + pick (bit 1 i) 2 0) 0)) t,
       rw (le-leb i 127 p.reserved, parts_in (λ code sub rest. mapped (with_parts (pick (bit 64 i) 2 1) code sub) (title_by (i / 4 % 16) rest)) i (bit 1 i) (bit 2 i) ys p.whole p.code, h),
     )

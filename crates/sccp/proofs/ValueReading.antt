@@ -25,7 +25,8 @@ use Rattle.address.specs.declared.parts.Parts.{Parts}
 use Rattle.address.proofs.Interpreting.{title_holds, code_holds, sub_holds, others_hold}
 use Rattle.address.proofs.Interpreted.{read_whole}
 use Rattle.address.proofs.Others.{count_known}
-use Rattle.sccp.specs.Sccp.{there, with_parts, same, routes, included, alone, absent_or, title_converts, converts}
+use Rattle.address.proofs.Planning.{map-some}
+use Rattle.sccp.specs.Sccp.{with_parts, same, routes, included, alone, absent_or, title_converts, converts}
 use Rattle.sccp.specs.Steps.{plain_parts, convertible}
 use Rattle.sccp.proofs.Parts.{code_small}
 use Rattle.sccp.proofs.Parties.{passes, whole}
@@ -42,10 +43,6 @@ kept_address v s others = record {
   sub = kept_sub v s.ssn;
   others = others;
 }
-
-there-map : {X Y : Type 0} (f : X → Y) (o : Option X) → there (option_map f o) ≡ is_some o
-there-map f None = refl
-there-map f (Some x) = refl
 
 alone-counted : (ps : List Param) → alone ps ≡ eqb (length ps) 0
 alone-counted [] = refl
@@ -109,9 +106,9 @@ module _ {v : List ℕ} {s : Parts} (r : Read v s) where
   unfolding converts
   converts_by =
       rw (
-        there-map _ s.title,
-        there-map _ s.code,
-        there-map _ s.ssn,
+        map-some _ s.title,
+        map-some _ s.code,
+        map-some _ s.ssn,
         alone-counted others,
         others_count,
       )

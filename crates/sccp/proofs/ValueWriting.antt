@@ -24,7 +24,6 @@ use Rattle.address.specs.Address.{sub_param, write_title, write_address, pieces,
 use Rattle.address.specs.Steps.GivenParts.{given_param}
 use Rattle.address.proofs.Planning.{each_one, param_of, code_param, sub_one, map-some, four-length, parts-written}
 use Rattle.address.proofs.Delivering.{parts-length}
-use Rattle.sccp.specs.Sccp.{there}
 use Rattle.sccp.specs.Steps.{title_from, address_from, packed, title_param, param_length, ssn_value, head_from, value_length}
 use Rattle.sccp.specs.declared.common.Title.{Title}
 use Rattle.sccp.specs.declared.common.Common.{Common}
@@ -119,11 +118,7 @@ module _ (t : Title) (out head : List ℕ) (room : param_length (Some t) ≤ len
         ∙ ap (λ (os : List ℕ). deliver (accepted os) out) (sym (one_run (title_one t)))
         ∙ ap (λ (o : Outcome (List Param)). deliver (mapped run_octets o) out) (sym (title_known (Some t)))
 
--- A part that is there, and one of four octets.
-there-some : {X : Type 0} (o : Option X) → there o ≡ is_some o
-there-some None = refl
-there-some (Some x) = refl
-
+-- A part of four octets.
 given : (tag : ℕ) (f : ℕ → List ℕ) (o : Option ℕ) → given_param tag (option_map f o) ≡ param_of (λ n. param tag (f n)) o
 given tag f None = refl
 given tag f (Some n) = refl
@@ -220,7 +215,7 @@ module _ (p : Common) where
 
   head_known : two (address_from p).routing ++ two (Sua.indicator (address_from p)) ≡ head_from p
   unfolding Sua.indicator
-  head_known = rw (there-some p.ssn, there-some p.point_code, there-some (option_map title_from p.title), map-some title_from p.title)
+  head_known = rw (map-some title_from p.title)
 
   pub value-known : write_address built_in 0 (address_from p) ≡ accepted (head_from p ++ run_octets all)
   unfolding write_address

@@ -1,10 +1,10 @@
 -- Which addresses of SUA convert, in the words of document 02, change request 5; and what the theorems give.
 use Rattle.std.specs.Prelude.{ℕ, ◌+◌, ◌-◌, ◌*◌, ◌/◌, ◌%◌, ◌≤◌, ◌≡◌, true, ◌⊎◌, List, [], length, get_or, drop}
-use Rattle.std.specs.Prelude.{Option, None, Some}
+use Rattle.std.specs.Prelude.{Option, None, Some, is_some}
 use Rattle.bcd.specs.Outcome.{accepted, refused, pick}
 use Rattle.bcd.specs.Digits.{halves, built_in, digits_in, KnownDigits}
 use Rattle.address.specs.Address.{Title, Address, bit, read_address}
-use Rattle.sccp.specs.Sccp.{there, to_sccp, from_sccp}
+use Rattle.sccp.specs.Sccp.{to_sccp, from_sccp}
 
 -- A title has indicator 4, a numbering plan up to 15, a nature up to 127, and no digit ?.
 pub record TitleConverts (t : Title) : Type 0 where
@@ -21,9 +21,9 @@ Where P (Some x) = P x
 -- The conditions, one by one.
 pub record Converts (a : Address) : Type 0 where
   pub routing : (a.routing ≡ 1) ⊎ (a.routing ≡ 2)
-  pub gt : a.gt ≡ there a.title
-  pub pc : a.pc ≡ there a.code
-  pub ssn : a.ssn ≡ there a.sub
+  pub gt : a.gt ≡ is_some a.title
+  pub pc : a.pc ≡ is_some a.code
+  pub ssn : a.ssn ≡ is_some a.sub
   pub title : Where TitleConverts a.title
   pub code : Where (λ (n : ℕ). n ≤ 16383) a.code
   pub others : a.others ≡ []

@@ -1,7 +1,7 @@
 -- Party addresses of SCCP, read and written as addresses of SUA (ITU-T Q.713, 3.4; document 02, change request 5). The length
 -- octet that stands before a party address in a message is no part of it.
 use Rattle.std.specs.Prelude.{ℕ, ◌+◌, ◌-◌, ◌*◌, ◌/◌, ◌%◌, Bool, true, false, not, ◌&&◌, List, [], ◌∷◌, ◌++◌, leb, eqb, length, get_or}
-use Rattle.std.specs.Prelude.{Option, None, Some}
+use Rattle.std.specs.Prelude.{Option, None, Some, is_some}
 use Rattle.bcd.specs.Outcome.{Outcome, accepted, refused, pick, after, demand, mapped, bounded}
 use Rattle.bcd.specs.Digits.{halves, built_in, digits_in, write_digits}
 use Rattle.parameter.specs.Parameter.{Param}
@@ -10,11 +10,6 @@ use Rattle.address.specs.Address.{Title, Address, bit, read_address, write_addre
 -- Octets that are no party address of SCCP, or one that does not convert (document 02, change request 5).
 abbrev pub invalid : {A : Type 0} → Outcome A
 invalid = refused 18 []
-
--- Whether a part is there.
-abbrev pub there : {X : Type 0} → Option X → Bool
-there None = false
-there (Some x) = true
 
 -- No digit is ?, which half octet 15 reads as.
 abbrev pub known : List ℕ → Bool
@@ -25,9 +20,9 @@ known (c ∷ cs) = not (eqb c 0x3F) && known cs
 abbrev pub with_parts : (routing : ℕ) → (code sub : Option ℕ) → Option Title → Address
 with_parts routing code sub title = record {
   routing = routing;
-  gt = there title;
-  pc = there code;
-  ssn = there sub;
+  gt = is_some title;
+  pc = is_some code;
+  ssn = is_some sub;
   title = title;
   code = code;
   sub = sub;
@@ -107,7 +102,7 @@ routes n = pick (eqb n 1) true (eqb n 2)
 
 -- .. include bits equal presence ..
 abbrev pub included : Address → Bool
-included a = same a.gt (there a.title) && (same a.pc (there a.code) && same a.ssn (there a.sub))
+included a = same a.gt (is_some a.title) && (same a.pc (is_some a.code) && same a.ssn (is_some a.sub))
 
 -- .. raw sub-parameters are absent ..
 abbrev pub alone : List Param → Bool
@@ -145,7 +140,7 @@ title_octets (Some t) =
 -- The address indicator, title indicator 4 in its bits 3 to 6 (3.4.1).
 abbrev pub indicator : Address → ℕ
 indicator a =
-    pick (there a.code) 1 0 + pick (there a.sub) 2 0 + pick (there a.title) 16 0 + pick (eqb a.routing 1) 0 64
+    pick (is_some a.code) 1 0 + pick (is_some a.sub) 2 0 + pick (is_some a.title) 16 0 + pick (eqb a.routing 1) 0 64
 
 -- A party address written; 17 for what does not convert.
 unfoldable pub sccp_octets : Address → Outcome (List ℕ)

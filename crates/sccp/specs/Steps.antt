@@ -70,7 +70,8 @@ param_length (Some t) = padded_length (8 + length t.digits.octets.now)
 abbrev pub ssn_value : ℕ → List ℕ
 ssn_value n = 0 ∷ 0 ∷ 0 ∷ n ∷ []
 
--- The octets in front of the sub-parameters of an address value: routing indicator, address indicator. How many octets the whole takes.
+-- The octets in front of the sub-parameters of an address value: routing indicator, address indicator; how many octets the whole
+-- takes.
 abbrev pub head_from : Common → List ℕ
 head_from p =
     two (pick p.on_title 1 2)

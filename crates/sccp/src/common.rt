@@ -6,7 +6,7 @@ ghost use Rattle.sccp.specs.Sccp.{known};
 
 use bcd::rewrite::rewritten_digits_length;
 
-// So many digits, the half octets of these octets from the first on. None is `?`.
+// Digits: so many half octets of these octets, from the first on, none of which reads as `?`.
 #[derive(Clone, Copy)]
 pub(crate) struct Digits<'a> {
     pub(crate) octets: &'a [u8],
@@ -44,7 +44,8 @@ impl<'a> Digits<'a> {
 
     // Digits read: as many as the count says, or as there are. None where one is `?`.
     pub(crate) fn new(octets: &'a [u8], count: u8) -> Option<Digits<'a>>
-        ensures { let digits = digits_in built_in octets.entry.now count in option_map digits_from result ≡ pick (known digits) (Some digits) None }
+        ensures { let digits = digits_in built_in octets.entry.now count in
+            option_map digits_from result ≡ pick (known digits) (Some digits) None }
     {
         let count = usize::from(count).min(2 * octets.len());
         let octets = &octets[..count.div_ceil(2)];

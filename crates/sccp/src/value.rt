@@ -1,15 +1,15 @@
 // Address values of SUA, read and written (RFC 3868, 3.10.2).
-ghost use Rattle.std.specs.Prelude.{◌≡◌, ◌++◌, ◌≤◌, leb, length, drop, option_map, is_some};
-ghost use Rattle.bcd.specs.Outcome.{accepted, pick, after, mapped, delivered, deliver};
+ghost use Rattle.std.specs.Prelude.{◌≡◌, ◌++◌, ◌≤◌, leb, length, drop, option_map};
+ghost use Rattle.bcd.specs.Outcome.{after, mapped, delivered, deliver};
 ghost use Rattle.bcd.specs.Answers.{outcome_of};
 ghost use Rattle.bcd.specs.Digits.{built_in};
 ghost use Rattle.parameter.specs.Parameter.{four, run_octets};
 ghost use Rattle.address.specs.Address.{title_at, read_address, write_address};
-ghost use Rattle.address.specs.Steps.GivenParts.{given_param};
 ghost use Rattle.address.specs.Steps.Kept.{kept_title, kept_code, kept_sub};
 ghost use Rattle.address.specs.Steps.Plan.{HeldIn, Read};
 ghost use Rattle.sccp.specs.Sccp.{absent_or, title_converts, converts};
-ghost use Rattle.sccp.specs.Steps.{title_from, address_from, plain_parts, convertible, title_param, param_length, ssn_value, head_from, value_length};
+ghost use Rattle.sccp.specs.Steps.{title_from, address_from, plain_parts, convertible};
+ghost use Rattle.sccp.specs.Steps.{title_param, param_length, ssn_value, head_from, value_length};
 
 use crate::common::{Common, Digits, Title};
 use address::encode::write_four;
@@ -189,6 +189,7 @@ pub(crate) fn write(address: Common<'_>, out: &mut [u8]) -> Result<usize, Refusa
     if out.len() < length {
         return Err(Refusal::OutputTooSmall(length));
     }
+    // There is room, so that no part is refused.
     write_head(address, out);
     let code_place = 4 + write_title(address.title, &mut out[4..])?;
     let code = address.point_code.map(code_value);

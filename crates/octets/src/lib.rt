@@ -1,7 +1,7 @@
 // Octets copied into a lent buffer, and looked for in a text.
 #![tactic(auto)]
 
-ghost use Rattle.std.specs.Prelude.{◌≡◌, ◌≢◌, ◌≤◌, ◌<◌, ◌++◌, ℕ, min, length, take, drop, slice_index};
+ghost use Rattle.std.specs.Prelude.{◌≡◌, ◌≢◌, ◌≤◌, ◌<◌, ◌++◌, ℕ, min, length, take, drop, slice_index, unwrap_or, IfSome};
 
 // Copies octets to the front of a buffer, as many as fit, and answers how many they are.
 pub fn copy(from: &[u8], out: &mut [u8]) -> usize
@@ -14,19 +14,11 @@ pub fn copy(from: &[u8], out: &mut [u8]) -> usize
     n
 }
 
-// The first place of an octet between two places of a text, or the second place where it is not there.
-pub fn find(text: &[u8], from: usize, to: usize, octet: u8) -> usize
-    requires ordered { from ≤ to }
-    requires inside { to ≤ length text.now }
-    ensures from { from ≤ result }
-    ensures to { result ≤ to }
-    ensures found { result < to → slice_index text.now result ≡ octet }
-    ensures first { (k : ℕ) → from ≤ k → k < result → slice_index text.now k ≢ octet }
+// The first place of an octet in a text, if it is there.
+pub fn find(text: &[u8], octet: u8) -> Option<usize>
+    ensures inside { IfSome result (λ i. i < length text.now) }
+    ensures found { IfSome result (λ i. slice_index text.now i ≡ octet) }
+    ensures first { (k : ℕ) → k < unwrap_or result (length text.now) → slice_index text.now k ≢ octet }
 {
-    for i in from..to {
-        if text[i] == octet {
-            return i;
-        }
-    }
-    to
+    text.iter().position(|&it| it == octet)
 }

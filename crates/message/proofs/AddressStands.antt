@@ -14,7 +14,6 @@ use Rattle.parameter.specs.Walk.{valued}
 use Rattle.parameter.specs.Table.{Table, over, Tabulated, tabulate, records, find_param}
 use Rattle.parameter.proofs.Stored.{stored-records}
 use Rattle.address.specs.Address.{Address, read_address}
-use Rattle.address.specs.Records.{address_of}
 use Rattle.address.specs.Listing.{other_places, address_record, Listed, listed, list_address}
 use Rattle.address.specs.Steps.Plan.{Read}
 use Rattle.address.specs.declared.parts.Parts.{Parts}

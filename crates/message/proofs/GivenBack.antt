@@ -2,13 +2,12 @@
 -- all else is as it was given, where no other sub-parameter has the tag of a title, a point code or an SSN.
 use Prim.Native.Nat.{ℕ, ◌≤◌}
 use mathlib.Core.Path.{◌≡◌, refl, sym, ap, ◌∙◌}
-use mathlib.Core.Bool.{Bool, true, false}
 use Rattle.std.specs.Prelude.{Option, None, Some, option_map}
 use mathlib.Core.List.{List, [], ◌∷◌, ◌++◌, map}
 use native.Mathlib.Omega.{arith}
 use borrow.Author.Tests.{le-leb, ne_eqb}
 use lib.ListN.{length}
-use Rattle.bcd.specs.Outcome.{Outcome, accepted, pick, after, mapped, each, All}
+use Rattle.bcd.specs.Outcome.{Outcome, accepted, after, each, All}
 use Rattle.bcd.specs.Digits.{built_in, fold, write_digits}
 use Rattle.bcd.proofs.Outcomes.{accepted_inj, after_inv, mapped_inv, each-cons, each_inv, bounded-within, all_append}
 use Rattle.bcd.proofs.Digits.{fold_reads}

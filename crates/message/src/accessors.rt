@@ -97,7 +97,11 @@ impl SuaMessage {
     }
 
     // Reads the source address; its others are stored at their places in the values. 15, 7, then the address's, then 13.
-    pub fn source_address(self, lent: Records<'_>, others: &mut [Place]) -> Result<SuaAddress, Refusal>
+    pub fn source_address(
+        self,
+        lent: Records<'_>,
+        others: &mut [Place],
+    ) -> Result<SuaAddress, Refusal>
         ensures { listed (outcome_of result) others.new
             ≡ source_address lent.entry.values.now lent.entry.rows.now self.count others.old }
     {
@@ -105,7 +109,11 @@ impl SuaMessage {
     }
 
     // Reads the destination address; its others are stored at their places in the values. 15, 7, then the address's, then 13.
-    pub fn destination_address(self, lent: Records<'_>, others: &mut [Place]) -> Result<SuaAddress, Refusal>
+    pub fn destination_address(
+        self,
+        lent: Records<'_>,
+        others: &mut [Place],
+    ) -> Result<SuaAddress, Refusal>
         ensures { listed (outcome_of result) others.new
             ≡ destination_address lent.entry.values.now lent.entry.rows.now self.count others.old }
     {

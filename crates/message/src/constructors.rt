@@ -156,8 +156,12 @@ impl SuaMessage {
             sequence_control ss7_hop_count «data».now)
             out.old }
     {
-        let [source, destination] =
-            addresses(source, source_others, destination, destination_others);
+        let [source, destination] = addresses(
+            source,
+            source_others,
+            destination,
+            destination_others,
+        );
         let parts = [
             Some(Part::Number(tags::ROUTING_CONTEXT, routing_context)),
             Some(Part::Octet(tags::PROTOCOL_CLASS, protocol_class)),
@@ -190,8 +194,12 @@ impl SuaMessage {
             (option_copied «data».entry))
             out.old }
     {
-        let [source, destination] =
-            addresses(source, source_others, destination, destination_others);
+        let [source, destination] = addresses(
+            source,
+            source_others,
+            destination,
+            destination_others,
+        );
         let cause = [0, 0, cause_type, cause_value];
         let parts = [
             Some(Part::Number(tags::ROUTING_CONTEXT, routing_context)),

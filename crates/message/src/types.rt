@@ -79,6 +79,7 @@ impl MessageClass {
 
 impl TryFrom<u8> for MessageClass {
     type Error = Refusal;
+
     ghost try_from_gives = { λ value read. outcome_of read ≡ from_octet value };
 
     fn try_from(value: u8) -> Result<MessageClass, Refusal> {
@@ -259,11 +260,28 @@ impl MessageType {
     {
         match self {
             Self::Error | Self::Notify => MessageClass::Management,
-            Self::Duna | Self::Dava | Self::Daud | Self::Scon | Self::Dupu | Self::Drst => MessageClass::Snm,
-            Self::AspUp | Self::AspDown | Self::Heartbeat | Self::AspUpAck | Self::AspDownAck | Self::HeartbeatAck => MessageClass::Aspsm,
-            Self::AspActive | Self::AspInactive | Self::AspActiveAck | Self::AspInactiveAck => MessageClass::Asptm,
+            Self::Duna | Self::Dava | Self::Daud | Self::Scon | Self::Dupu | Self::Drst =>
+                MessageClass::Snm,
+            Self::AspUp
+            | Self::AspDown
+            | Self::Heartbeat
+            | Self::AspUpAck
+            | Self::AspDownAck
+            | Self::HeartbeatAck => MessageClass::Aspsm,
+            Self::AspActive | Self::AspInactive | Self::AspActiveAck | Self::AspInactiveAck =>
+                MessageClass::Asptm,
             Self::Cldt | Self::Cldr => MessageClass::ConnectionLess,
-            Self::Core | Self::Coak | Self::Coref | Self::Relre | Self::Relco | Self::Resco | Self::Resre | Self::Codt | Self::Coda | Self::Coerr | Self::Coit => MessageClass::ConnectionOriented,
+            Self::Core
+            | Self::Coak
+            | Self::Coref
+            | Self::Relre
+            | Self::Relco
+            | Self::Resco
+            | Self::Resre
+            | Self::Codt
+            | Self::Coda
+            | Self::Coerr
+            | Self::Coit => MessageClass::ConnectionOriented,
             Self::RegReq | Self::RegRsp | Self::DeregReq | Self::DeregRsp => MessageClass::Rkm,
         }
     }
@@ -271,6 +289,7 @@ impl MessageType {
 
 impl TryFrom<(u8, u8)> for MessageType {
     type Error = Refusal;
+
     ghost try_from_gives = { λ pair read. outcome_of read ≡ from_class_type pair.0 pair.1 };
 
     fn try_from(pair: (u8, u8)) -> Result<MessageType, Refusal> {

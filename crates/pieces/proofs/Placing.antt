@@ -1,6 +1,6 @@
 -- A part of a message: what it takes, and its value written at the fifth octet of a buffer and framed there.
 use Prim.Native.Nat.{ℕ, ◌-◌, ◌*◌, ◌≤◌, ◌<◌}
-use mathlib.Core.Path.{◌≡◌, refl, sym, ap, ◌∙◌}
+use mathlib.Core.Path.{◌≡◌, sym, ap, ◌∙◌}
 use mathlib.Core.List.{List, [], ◌∷◌, ◌++◌}
 use mathlib.Core.Logic.{⊎_elim}
 use native.Mathlib.Omega.{arith}
@@ -15,7 +15,7 @@ use Rattle.parameter.specs.Parameter.{padded_length, most_value, param_octets, e
 use Rattle.parameter.proofs.RoundTrip.{octets-length}
 use Rattle.parameter.proofs.Encoding.{wire_encode, wire_within, encode_within, encode_beyond, framed-length, frame_known}
 use Rattle.parameter.proofs.InPlace.{framed-there}
-use Rattle.pieces.specs.PointCodes.{codes_octets, most_codes, pack_codes}
+use Rattle.pieces.specs.PointCodes.{most_codes, pack_codes}
 use Rattle.pieces.specs.Parts.{number, octet, affected, Placeable}
 use Rattle.pieces.proofs.PointCodes.{codes-length, pack_few, pack_many}
 use Rattle.pieces.proofs.Running.{lent_length}

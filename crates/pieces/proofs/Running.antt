@@ -8,7 +8,7 @@ use lib.Seq.{take_all}
 use borrow.Rule.Slice.PartMut.{mid_of, put_mid}
 use Rattle.bcd.specs.Outcome.{Outcome, accepted, refused, mapped, each, fit64, deliver}
 use Rattle.bcd.proofs.Outcomes.{accepted_inj, never, mapped_inv, each_more, each_stopped, each-front, deliver_buffer, deliver_answer}
-use Rattle.bcd.proofs.Writing.{Begun, extend, untouched, delivered}
+use Rattle.bcd.proofs.Writing.{Begun, extend, delivered}
 use Rattle.pieces.specs.Parts.{Placeable}
 
 -- Octets that a callee wrote behind what was begun.

@@ -18,7 +18,6 @@ use Rattle.pieces.proofs.put_run.Goals.{in-Some+in_ok-at, in_default}
 at_element : {part part' : Option Part} (lent : List ℕ) → part ≡ part' → deliver (given_written part) lent ≡ deliver (given_written part') lent
 at_element {part} {part'} lent e = ap (λ (p : Option Part). deliver (given_written p) lent) e
 
-
 pub put-requires : goal.put-requires
 put-requires c =
     subst (λ (part : Option Part). Placeable (given_written part) (length (mid_of c.loop-part.at (length c.loop-part.out - c.loop-part.at) c.loop-part.out))) c.in-Some.is
@@ -35,10 +34,10 @@ overflow_add-at c =
 pub loop-part-preserved : goal.loop-part-preserved
 loop-part-preserved c =
     elim c.match-part.branch as (λ b. Running given_written c.args.parts.now c.args.out.now c.match-part.out (c.loop-part.part-index + 1) c.match-part.at) [
-      in-Some+in_ok-at w ↦
+      | in-Some+in_ok-at w ↦
           rw (w.out-is, w.at-is)
           (running_more c.loop-part.invariant c.requires None _ _ c.loop-part-test.true (w.in_ok-at.ensures ∙ at_element _ (sym w.in-Some.is)))
-    | in_default w ↦ rw (w.out-is, w.at-is) (running_none c.loop-part.invariant c.requires None c.loop-part-test.true (ap given_written w.in_default.is))
+      | in_default w ↦ rw (w.out-is, w.at-is) (running_none c.loop-part.invariant c.requires None c.loop-part-test.true (ap given_written w.in_default.is))
     ]
 
 pub returns : goal.returns

@@ -21,9 +21,9 @@ returns-in_err-length c =
 pub loop-part-preserved : goal.loop-part-preserved
 loop-part-preserved c =
     elim c.match-part.branch as (λ b. Measured given_written c.args.parts.now (c.loop-part.part-index + 1) c.match-part.total) [
-      in-Some+in_ok-length w ↦
+      | in-Some+in_ok-length w ↦
           measured_more c.loop-part.invariant _ _ None c.loop-part-test.true
           (w.in_ok-length.ensures ∙ ap (λ (part : Option Part). mapped length (given_written part)) (sym w.in-Some.is))
           (w.total-is ∙ w.saturating_add-total.ensures)
-    | in_default w ↦ measured_more c.loop-part.invariant _ 0 None c.loop-part-test.true (ap (λ (part : Option Part). mapped length (given_written part)) (sym w.in_default.is)) (w.total-is ∙ omega (arith, c.loop-part.invariant.sum))
+      | in_default w ↦ measured_more c.loop-part.invariant _ 0 None c.loop-part-test.true (ap (λ (part : Option Part). mapped length (given_written part)) (sym w.in_default.is)) (w.total-is ∙ omega (arith, c.loop-part.invariant.sum))
     ]

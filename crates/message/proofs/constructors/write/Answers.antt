@@ -1,6 +1,5 @@
 -- `message::constructors::write` meets its contract: the header, then the parts in the rest of the output.
 use mathlib.Core.Path.{◌∙◌}
-use mathlib.Core.List.{List}
 use native.Mathlib.Omega.{arith}
 use Rattle.bcd.specs.Outcome.{after}
 use Rattle.bcd.proofs.Outcomes.{deliver_too_long}

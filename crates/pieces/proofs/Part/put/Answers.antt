@@ -1,17 +1,15 @@
 -- `pieces::Part::put` meets its contract.
-use Prim.Native.Nat.{ℕ, ◌*◌, ◌≤◌}
+use Prim.Native.Nat.{ℕ}
 use mathlib.Core.Path.{◌≡◌, refl, sym, ap, ◌∙◌, subst}
 use mathlib.Core.List.{List}
 use native.Mathlib.Omega.{arith}
-use lib.ListN.{length}
 use Rattle.bcd.specs.Outcome.{Outcome, deliver}
 use Rattle.bcd.proofs.Outcomes.{never}
-use Rattle.parameter.specs.Parameter.{four, encode_param, param}
-use Rattle.address.specs.Given.{encode_address_as}
+use Rattle.parameter.specs.Parameter.{encode_param}
 use Rattle.pieces.specs.PointCodes.{pack_codes}
 use Rattle.pieces.specs.Parts.{part_written, affected, Placeable}
 use Rattle.pieces.specs.declared.Part.{Part}
-use Rattle.pieces.proofs.Placing.{as_param, codes_param, There, there, answer_known, value_put}
+use Rattle.pieces.proofs.Placing.{as_param, codes_param, there, answer_known, value_put}
 use Rattle.pieces.proofs.Part.put.Goals as goal
 
 -- by the part's case

@@ -1,8 +1,6 @@
 -- `pieces::point_codes::pack_affected_point_codes` meets its contract: the loop has written the first i codes.
-use Prim.Native.Nat.{◌*◌, ◌-◌}
 use mathlib.Core.Path.{refl}
 use native.Mathlib.Omega.{arith}
-use lib.ListN.{length}
 use lib.Seq.{take_all}
 use Rattle.bcd.proofs.Outcomes.{deliver_refused, deliver-short}
 use Rattle.bcd.proofs.Writing.{Begun, untouched}

@@ -71,8 +71,7 @@ fn length_with(
     if others.outside(address.other_count) {
         return Err(Refusal::OutsideSlice);
     }
-    let front =
-        4 + four_length(address.point_code.is_some()) + four_length(address.ssn.is_some());
+    let front = 4 + four_length(address.point_code.is_some()) + four_length(address.ssn.is_some());
     let length = front
         .saturating_add(title?)
         .saturating_add(others.parameters_length(address.other_count)?);
@@ -153,7 +152,13 @@ impl SuaAddress {
 
     // Writes an address value, which has `total` octets if its digits can be written. The title goes first: nothing is written
     // before 9.
-    fn write(&self, tag: u16, others: Records<'_>, total: usize, out: &mut [u8]) -> Result<usize, Refusal>
+    fn write(
+        &self,
+        tag: u16,
+        others: Records<'_>,
+        total: usize,
+        out: &mut [u8],
+    ) -> Result<usize, Refusal>
         requires total_value { accepted total ≡ room_for tag self.now others.values.now others.rows.now }
         requires total_in_bounds { total ≤ length out.old }
         ensures { delivered (outcome_of result) out.new

@@ -29,7 +29,9 @@ pub enum RoutingIndicator {
 // The routing indicator of a number. 8 above 4.
 impl TryFrom<u16> for RoutingIndicator {
     type Error = Refusal;
+
     ghost try_from_gives = { λ n r. mapped routing_value (outcome_of r) ≡ routing_in n };
+
     fn try_from(value: u16) -> Result<RoutingIndicator, Refusal> {
         match value {
             0 => Ok(RoutingIndicator::Reserved),
@@ -45,6 +47,7 @@ impl TryFrom<u16> for RoutingIndicator {
 // The number of a routing indicator.
 impl From<RoutingIndicator> for u16 {
     ghost from_gives = { λ i n. n ≡ routing_value i };
+
     fn from(indicator: RoutingIndicator) -> u16 {
         match indicator {
             RoutingIndicator::Reserved => 0,

@@ -12,9 +12,10 @@ pub loop-place-init : goal.loop-place-init
 loop-place-init c =
     let i = c.into_iter-place-iterator.ensures.into_iter_gives in
     let v = c.args.value.now in
-    let t = c.args.rows.now in
-    (ap (λ (s : Parameters). s.bytes.now) i ∙ c.new-place-items.ensures.bytes,
-    subst (λ (k : ℕ). Tabling v t t k 0) (sym (ap (λ (s : Parameters). s.at) i ∙ c.new-place-items.ensures.at)) (tabling_start v t))
+    let t = c.args.rows.now in (
+      ap (λ (s : Parameters). s.bytes.now) i ∙ c.new-place-items.ensures.bytes,
+      subst (λ (k : ℕ). Tabling v t t k 0) (sym (ap (λ (s : Parameters). s.at) i ∙ c.new-place-items.ensures.at)) (tabling_start v t),
+    )
 
 -- the walk is not refused
 pub returns-in_err-place : goal.returns-in_err-place

@@ -9,9 +9,10 @@ use Rattle.address.proofs.parts.survey.Goals as goal
 pub loop-place-init : goal.loop-place-init
 loop-place-init c =
     let i = c.into_iter-place-iterator.ensures.into_iter_gives in
-    let v = c.args.value.now in
-    (ap (λ (s : Parameters). s.bytes.now) i ∙ c.new-place-items.ensures.bytes,
-    subst (λ (k : ℕ). Surveying v k c.none-parts.result) (sym (ap (λ (s : Parameters). s.at) i ∙ c.new-place-items.ensures.at)) (surveying_start v _ c.none-parts.ensures))
+    let v = c.args.value.now in (
+      ap (λ (s : Parameters). s.bytes.now) i ∙ c.new-place-items.ensures.bytes,
+      subst (λ (k : ℕ). Surveying v k c.none-parts.result) (sym (ap (λ (s : Parameters). s.at) i ∙ c.new-place-items.ensures.at)) (surveying_start v _ c.none-parts.ensures),
+    )
 
 pub returns-in_err-place : goal.returns-in_err-place
 returns-in_err-place c =

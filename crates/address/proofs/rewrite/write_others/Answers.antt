@@ -13,9 +13,10 @@ pub loop-place-init : goal.loop-place-init
 loop-place-init c =
     let i = c.into_iter-place-iterator.ensures.into_iter_gives in
     let v = c.args.value.now in
-    let out = c.args.out.now in
-    (ap (λ (s : Parameters). s.bytes.now) i ∙ c.new-place-items.ensures.bytes,
-    subst (λ (k : ℕ). Copying v out out k 0) (sym (ap (λ (s : Parameters). s.at) i ∙ c.new-place-items.ensures.at)) (copying_start v out))
+    let out = c.args.out.now in (
+      ap (λ (s : Parameters). s.bytes.now) i ∙ c.new-place-items.ensures.bytes,
+      subst (λ (k : ℕ). Copying v out out k 0) (sym (ap (λ (s : Parameters). s.at) i ∙ c.new-place-items.ensures.at)) (copying_start v out),
+    )
 
 -- the walk is not refused
 pub returns-in_err-place : goal.returns-in_err-place

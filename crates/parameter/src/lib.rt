@@ -155,7 +155,7 @@ pub fn wire_length(tag: u16, length: usize) -> Result<usize, Refusal>
     if 65531 < length {
         return Err(Refusal::ValueTooLong { tag, length });
     }
-    Ok((length + 7) / 4 * 4)
+    Ok((length + 4).next_multiple_of(4))
 }
 
 // The first four octets of a value as a number; none under four octets. 12.
@@ -166,10 +166,7 @@ pub fn as_u32(value: &[u8]) -> Result<Option<u32>, Refusal>
     if 1048576 < n {
         return Err(Refusal::TooManyOctets(n));
     }
-    if n < 4 {
-        return Ok(None);
-    }
-    Ok(Some(u32::from_be_bytes([value[0], value[1], value[2], value[3]])))
+    Ok(value.first_chunk().map(|first| u32::from_be_bytes(*first)))
 }
 
 // Clears a slice of at most three octets, which padding is. No `fill` and no loop: they would be compiled to a call.

@@ -114,7 +114,7 @@ impl<'a> Records<'a> {
         let mut at: usize = 0;
         for &row in &self.rows[..count] {
             put(row.tag, &self.values[row.start..row.start + row.length], &mut out[at..]);
-            at += (row.length + 7) / 4 * 4;
+            at += (row.length + 4).next_multiple_of(4);
         }
     }
 

@@ -12,5 +12,5 @@ returns-then-length-gt65531 c = sym (wire_beyond c.args.tag c.args.length c.if-l
 
 pub returns : goal.returns
 returns c = let n = c.args.length in
-    let e : (n + 7) / 4 * 4 ≡ padded_length n = omega arith in
+    let e : c.next_multiple_of.result ≡ padded_length n = omega (arith, c.next_multiple_of.ensures) in
     ap accepted e ∙ sym (wire_within c.args.tag n c.if-length-gt65531.false)

@@ -27,8 +27,8 @@ put-requires c =
     let d = length-drop c.loop-row.at c.loop-row.out in
     record { value_len_bound = omega (arith, l, t.small); value_in_bounds = omega (arith, l, o, d, t.room) }
 
-pub overflow_add-at-in-loop-row : goal.overflow_add-at-in-loop-row
-overflow_add-at-in-loop-row c =
+pub overflow_add-at : goal.overflow_add-at
+overflow_add-at c =
     let y = c.loop-row.invariant.0 in
     let i = c.loop-row.row-index in
     let h : i < c.args.count = omega (arith, held_rows y.held, c.loop-row-test.true) in

@@ -4,19 +4,21 @@ use mathlib.Core.Path.{◌≡◌, refl, sym, ap, ◌∙◌}
 use mathlib.Core.Bool.{Bool, true, false, ◌&&◌}
 use mathlib.Core.List.{List, [], ◌∷◌}
 use native.Mathlib.Omega.{arith}
-use lib.ListN.{length, length-replicate, replicate}
+use lib.ListN.{length, get_or, length-replicate, replicate}
 use lib.Dec.{eqb}
 use borrow.Author.Tests.{eq-eqb, eqb-true, lt-ltb}
 use Rattle.std.specs.List.{sum}
 use Rattle.bcd.specs.Outcome.{accepted, refused, after, All, Octets}
-use Rattle.bcd.proofs.Outcomes.{accepted_inj, never}
+use Rattle.bcd.proofs.Outcomes.{accepted_inj, never, octets-of}
 use Rattle.bcd.proofs.Below.{both}
 use Rattle.tally.specs.declared.place.Gain.{Gain}
 use Rattle.tally.specs.Members.{members, valid_members}
 use Rattle.tally.specs.Rows.{Rows, no_rows, most_messages, within, valid_rows, gained}
 use Rattle.tally.specs.Tally.{placed, Tallied, tallied, tally, day}
 use Rattle.tally.specs.Facts.{whole_day}
-use Rattle.tally.proofs.Lists.{sum_cons}
+use Rattle.tally.specs.Steps.Room.{HasRoom}
+use Rattle.tally.proofs.Lists.{sum_cons, below_sum}
+use Rattle.tally.proofs.Rules.{valid_rows_lem}
 use Rattle.tally.proofs.Loading.{members-length}
 use Rattle.tally.proofs.Raising.{sum-raised}
 use Rattle.tally.proofs.Placing.{placed_row, placed-octets}
@@ -132,3 +134,23 @@ module _ (ds ns : List ℕ) where
         → length ms ≤ most_messages
         → (whole_day ds ns ms ≡ accepted (counted adds ms (no_rows (length ns)))) × Sound (length ns) (counted adds ms (no_rows (length ns)))
     whole_accepted ms o few = day_accepted ms (no_rows (length ns)) o (none_sound (length ns)) (omega (arith, none_sum (length ns + 2)))
+
+-- Valid rows have room for what a message adds.
+pub has_room :
+    (ds ns xs : List ℕ) (r : Rows)
+    → ((i : ℕ) → get_or xs i 0 < 256)
+    → valid_rows (length ns) r ≡ true
+    → HasRoom (placed (members ds ns) xs) r
+has_room ds ns xs r octets valid =
+    let g = placed (members ds ns) xs in
+    let o = (valid_rows_lem (length ns) r).0 valid in
+    let row = row_within ds ns xs in
+    let few = below_sum g.row r.messages in
+    let covered = o.covered g.row in
+    let short = placed-octets (members ds ns) xs (octets-of xs octets) in
+    record {
+      messages = omega (arith, row, o.messages);
+      octets = omega (arith, row, o.octets);
+      one = omega (arith, few, o.few);
+      more = omega (arith, few, o.few, covered, short);
+    }

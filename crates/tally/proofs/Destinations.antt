@@ -25,7 +25,7 @@ pub row_refused :
     → refused n vs ≡ mapped (λ (a : Address). title_row ps a.title) (read_address built_in v)
 row_refused ps v n vs e = rw (interpreted_refused v n vs e)
 
-module _ {v : List ℕ} {s : Parts} (o : Octets v) (e : accepted s ≡ interpreted v) {k : Option Place} (t : s.title ≡ k) where
+module _ (v : List ℕ) {s : Parts} (o : Octets v) (e : accepted s ≡ interpreted v) {k : Option Place} (t : s.title ≡ k) where
   pub row_kept : (ps : List (List ℕ)) → accepted (title_row ps (kept_title built_in v k)) ≡ mapped (λ (a : Address). title_row ps a.title) (read_address built_in v)
   row_kept ps =
       let r = interpreted-read o e in
@@ -35,5 +35,5 @@ module _ {v : List ℕ} {s : Parts} (o : Octets v) (e : accepted s ≡ interpret
   held = let r = interpreted-read o e in subst (HeldIn v 8) t (sound r.known r.whole).title
 
 -- A title that is kept has its eight octets.
-pub title_long : {v : List ℕ} {s : Parts} {p : Place} → Octets v → accepted s ≡ interpreted v → s.title ≡ Some p → 8 ≤ length (valued v p).value
-title_long {v} {s} {p} o e t = let h = held o e t in omega (arith, h, value-length v p h.0)
+pub title_long : (v : List ℕ) {s : Parts} {p : Place} → Octets v → accepted s ≡ interpreted v → s.title ≡ Some p → 8 ≤ length (valued v p).value
+title_long v {s} {p} o e t = let h = held v o e t in omega (arith, h, value-length v p h.0)

@@ -31,7 +31,6 @@ pub fn tally(
         return Err(Refusal::InvalidTally);
     }
     let gain = members.place(input);
-    messages[gain.row] += 1;
-    octets[gain.row] += gain.octets as u64;
+    rows::gain(gain, messages, octets);
     Ok(gain.row)
 }

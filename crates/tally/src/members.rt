@@ -66,7 +66,8 @@ impl<'a> Members<'a> {
 
     // How many there are.
     pub fn count(&self) -> usize
-        ensures { result ≡ length self.now }
+        ensures value { result ≡ length self.now }
+        ensures few { result ≤ 64 }
     {
         self.lengths.len()
     }

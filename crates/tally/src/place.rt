@@ -62,8 +62,10 @@ impl Members<'_> {
         form::settled_length(input)?;
         let header = CommonHeader::decode(input)?;
         let (destination, data) = firsts(input)?;
-        let row = match (header.message_type, destination) {
-            (MessageType::Cldt, Some(place)) => self.destination_row(place.value(input))?,
+        let row = match destination {
+            Some(place) if header.message_type == MessageType::Cldt => {
+                self.destination_row(place.value(input))?
+            }
             _ => self.count(),
         };
         let octets = data.map_or(0, |place| place.length);

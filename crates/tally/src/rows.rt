@@ -1,6 +1,9 @@
-// The rows of a tally: whether they can gain a message.
+// The rows of a tally: whether they can gain a message, and what they gain.
 ghost use Rattle.std.specs.Prelude.{◌≡◌, ◌≤◌, ltb, sum};
-ghost use Rattle.tally.specs.Rows.{rows, most_messages, within, valid_rows};
+ghost use Rattle.tally.specs.Rows.{rows, most_messages, within, valid_rows, gained};
+ghost use Rattle.tally.specs.Steps.Room.{HasRoom};
+
+use crate::place::Gain;
 
 // Whether the rows hold under 4,294,967,295 messages together.
 fn few(messages: &[u64]) -> bool
@@ -27,4 +30,13 @@ pub(crate) fn valid(members: usize, messages: &[u64], octets: &[u64]) -> bool
 {
     let n = members + 2;
     messages.len() == n && octets.len() == n && few(messages) && proportionate(messages, octets)
+}
+
+// Adds what a message adds to its row.
+pub(crate) fn gain(gain: Gain, messages: &mut [u64], octets: &mut [u64])
+    requires { HasRoom gain (rows messages.old octets.old) }
+    ensures { rows messages.new octets.new ≡ gained gain (rows messages.old octets.old) }
+{
+    messages[gain.row] += 1;
+    octets[gain.row] += gain.octets as u64;
 }

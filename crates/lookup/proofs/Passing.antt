@@ -4,9 +4,9 @@ use mathlib.Core.Path.{◌≡◌, refl, sym, ap, ap₂, ◌∙◌}
 use mathlib.Core.Bool.{Bool, true, false, ◌&&◌, and_assoc, and-false}
 use Rattle.std.specs.Prelude.{Option, None, Some, option_map}
 use Rattle.std.specs.Option.{option_or}
-use mathlib.Core.List.{List, [], ◌∷◌, ◌++◌, map}
+use mathlib.Core.List.{List, [], ◌∷◌, ◌++◌, map, append_assoc, append-nil}
 use lib.Dec.{eqb}
-use native.Mathlib.Numerals.{add-one}
+use native.Mathlib.Omega.{arith}
 use lib.ListN.{length, get_or, set, take, drop}
 use lib.Seq.{take-suc, take_all, split_at}
 use borrow.Author.Tests.{eqb-true, le-leb, lt-leb}
@@ -19,10 +19,10 @@ use Rattle.parameter.specs.Table.{Table, records, first_with}
 use Rattle.parameter.proofs.Records.{nowhere, inside, records_few, records-inside}
 use Rattle.lookup.specs.Steps.Pass.{wanted, place_among, first_of}
 
--- One record more behind the others: it is the first with its tag where there was none.
+-- One record more in front of the others: it is the first with its tag.
 abbrev pub kept : Option ℕ → Place → List (Option Place) → List (Option Place)
 kept None p firsts = firsts
-kept (Some k) p firsts = set firsts k (option_or (get_or firsts k None) (Some p))
+kept (Some k) p firsts = set firsts k (Some p)
 
 -- The first record with each tag.
 abbrev pub firsts : List ℕ → List Place → List (Option Place)
@@ -36,103 +36,81 @@ Different (t ∷ ts) = (place_among ts t ≡ None) × Different ts
 pub wanted_different : Different wanted
 wanted_different = (refl, (refl, (refl, (refl, (refl, (refl, (refl, tt)))))))
 
-module _ (p : Place) where
-  same_first : (tag : ℕ) (ps : List Place) → eqb p.tag tag ≡ true → first_with tag (ps ++ (p ∷ [])) ≡ option_or (first_with tag ps) (Some p)
-  same_first tag [] e = ap (λ b. pick b (Some p) None) e
-  same_first tag (q ∷ ps) e = go (eqb q.tag tag) (same_first tag ps e)
+module _ (p : Place) (ps : List Place) where
+  pub kept_more : (w : List ℕ) → Different w → firsts w (p ∷ ps) ≡ kept (place_among w p.tag) p (firsts w ps)
+  kept_more [] d = refl
+  kept_more (t ∷ ts) d = go (eqb p.tag t) refl (kept_more ts d.1)
     where
-      go :
-          (b : Bool)
-          → first_with tag (ps ++ (p ∷ [])) ≡ option_or (first_with tag ps) (Some p)
-          → pick b (Some q) (first_with tag (ps ++ (p ∷ []))) ≡ option_or (pick b (Some q) (first_with tag ps)) (Some p)
-      go true later = refl
-      go false later = later
-
-  other_first : (tag : ℕ) (ps : List Place) → eqb p.tag tag ≡ false → first_with tag (ps ++ (p ∷ [])) ≡ first_with tag ps
-  other_first tag [] e = ap (λ b. pick b (Some p) None) e
-  other_first tag (q ∷ ps) e = ap (pick (eqb q.tag tag) (Some q)) (other_first tag ps e)
-
-  pub kept_more : (w : List ℕ) (ps : List Place) → Different w → firsts w (ps ++ (p ∷ [])) ≡ kept (place_among w p.tag) p (firsts w ps)
-  kept_more [] ps d = refl
-  kept_more (t ∷ ts) ps d = go (eqb p.tag t) refl (kept_more ts ps d.1)
-    where
-      behind :
-          (o : Option ℕ) (x y : Option Place) (xs ys : List (Option Place))
-          → x ≡ y
-          → xs ≡ kept o p ys
-          → x ∷ xs ≡ kept (option_map (λ n. suc n) o) p (y ∷ ys)
-      behind None x y xs ys e f = ap₂ ◌∷◌ e f
-      behind (Some k) x y xs ys e f = ap₂ ◌∷◌ e f
+      behind : (o : Option ℕ) (x : Option Place) (xs ys : List (Option Place)) → xs ≡ kept o p ys → x ∷ xs ≡ kept (option_map (λ n. suc n) o) p (x ∷ ys)
+      behind None x xs ys e = ap (λ l. x ∷ l) e
+      behind (Some k) x xs ys e = ap (λ l. x ∷ l) e
 
       go :
           (b : Bool)
           → eqb p.tag t ≡ b
-          → firsts ts (ps ++ (p ∷ [])) ≡ kept (place_among ts p.tag) p (firsts ts ps)
-          → first_with t (ps ++ (p ∷ [])) ∷ firsts ts (ps ++ (p ∷ []))
+          → firsts ts (p ∷ ps) ≡ kept (place_among ts p.tag) p (firsts ts ps)
+          → pick b (Some p) (first_with t ps) ∷ firsts ts (p ∷ ps)
           ≡ kept (pick b (Some 0) (option_map (λ n. suc n) (place_among ts p.tag))) p (first_with t ps ∷ firsts ts ps)
       go true e later =
           let absent : place_among ts p.tag ≡ None = rw (eqb-true p.tag t e) d.0 in
-          ap₂ ◌∷◌ (same_first t ps e) (later ∙ ap (λ o. kept o p (firsts ts ps)) absent)
-      go false e later = behind (place_among ts p.tag) _ _ _ _ (other_first t ps e) later
+          ap (λ l. Some p ∷ l) (later ∙ ap (λ o. kept o p (firsts ts ps)) absent)
+      go false e later = behind (place_among ts p.tag) (first_with t ps) _ _ later
 
--- Records that lie inside the values, one after the other.
 every_joined : {A : Type 0} (test : A → Bool) (xs ys : List A) → every test (xs ++ ys) ≡ (every test xs && every test ys)
 every_joined test [] ys = refl
 every_joined test (x ∷ xs) ys = ap (λ b. test x && b) (every_joined test xs ys) ∙ sym (and_assoc (test x) (every test xs) (every test ys))
 
-module _ (values : List ℕ) where
-  pub inside_more :
-      (ps : List Place) (i : ℕ)
-      → i < length ps
-      → every (inside values) (take i ps) ≡ true
-      → (get_or ps i nowhere).start + (get_or ps i nowhere).length ≤ length values
-      → every (inside values) (take (i + 1) ps) ≡ true
-  inside_more ps i h e l =
-      ap (every (inside values)) (rw add-one (take-suc ps i nowhere h))
-      ∙ every_joined (inside values) (take i ps) (get_or ps i nowhere ∷ [])
-      ∙ rw (e, le-leb _ _ l)
+-- The pass has looked at the records behind those that are left.
+pub record Passed (values : List ℕ) (rows left : List Place) (first : List (Option Place)) : Type 0 where
+  pub done : List Place
+  pub whole : left ++ done ≡ rows
+  pub inside : every (inside values) done ≡ true
+  pub kept : first ≡ firsts wanted done
 
-  outside_found : (ps : List Place) (i : ℕ) → i < length ps → length values < (get_or ps i nowhere).start + (get_or ps i nowhere).length → every (inside values) ps ≡ false
-  outside_found ps i h l =
-      ap (every (inside values)) (split_at ps i nowhere h)
-      ∙ every_joined (inside values) (take i ps) (get_or ps i nowhere ∷ drop (suc i) ps)
-      ∙ rw (lt-leb _ _ l) (and-false (every (inside values) (take i ps)))
+pub pass_start : (values : List ℕ) (rows : List Place) → Passed values rows rows (firsts wanted [])
+pass_start values rows = record { done = []; whole = append-nil rows; inside = refl; kept = refl }
 
--- What the pass answers: 15, or what it kept of all records.
+pub pass_all : {values : List ℕ} {rows left : List Place} {first : List (Option Place)} (passed : Passed values rows left first) → length left ≡ 0 → passed.done ≡ rows
+pass_all {left = []} passed h = passed.whole
+pass_all {left = p ∷ ps} passed h = absurd (omega arith)
+
+-- It looks at one record more.
+module _ {values : List ℕ} {rows left : List Place} (next : List Place) {first : List (Option Place)} (passed : Passed values rows left first) (p : Place) (more : left ≡ next ++ (p ∷ [])) where
+  still_whole : next ++ (p ∷ passed.done) ≡ rows
+  still_whole = sym (append_assoc next (p ∷ []) passed.done) ∙ ap (λ l. l ++ passed.done) (sym more) ∙ passed.whole
+
+  pub pass_next : (place : Option ℕ) → place ≡ place_among wanted p.tag → p.start + p.length ≤ length values → Passed values rows next (kept place p first)
+  pass_next place e h = record {
+    done = p ∷ passed.done;
+    whole = still_whole;
+    inside = rw (le-leb _ _ h) passed.inside;
+    kept = ap₂ (λ o f. kept o p f) e passed.kept ∙ sym (kept_more p passed.done wanted wanted_different);
+  }
+
+  pub pass_outside : length values < p.start + p.length → every (inside values) rows ≡ false
+  pass_outside h =
+      ap (every (inside values)) (sym still_whole)
+      ∙ every_joined (inside values) next (p ∷ passed.done)
+      ∙ rw (lt-leb _ _ h) (and-false (every (inside values) next))
+
+-- What the pass answers, of the first so many rows of a table: 15, or what it kept of all of them.
 module _ (w : List ℕ) (values : List ℕ) (t : Table) (count : ℕ) where
   pass_refused : records values t count ≡ refused 15 [] → refused 15 [] ≡ first_of w values t count
   unfolding first_of
   pass_refused e = sym (ap (mapped (λ ps. firsts w (take count t))) e)
 
-  pub pass_few : length t < count → refused 15 [] ≡ first_of w values t count
-  pass_few h = pass_refused (records_few values t count h)
+  pub answer_few : length t < count → refused 15 [] ≡ first_of w values t count
+  answer_few h = pass_refused (records_few values t count h)
 
-  pub pass_outside :
-      (rows : List Place) (i : ℕ)
-      → rows ≡ take count t
-      → count ≤ length t
-      → i < length rows
-      → length values < (get_or rows i nowhere).start + (get_or rows i nowhere).length
-      → refused 15 [] ≡ first_of w values t count
-  pass_outside rows i e few h l =
-      pass_refused
-      (records-inside values t count few
-      ∙ ap (λ b. pick b (accepted (map (valued values) (take count t))) (refused 15 [])) (ap (every (inside values)) (sym e) ∙ outside_found values rows i h l))
+  told : (b : Bool) → count ≤ length t → every (inside values) (take count t) ≡ b → records values t count ≡ pick b (accepted (map (valued values) (take count t))) (refused 15 [])
+  told b few e = records-inside values t count few ∙ ap (λ b. pick b (accepted (map (valued values) (take count t))) (refused 15 [])) e
 
-  pub pass_whole :
-      (rows : List Place) (i : ℕ)
-      → rows ≡ take count t
-      → count ≤ length t
-      → length rows ≤ i
-      → every (inside values) (take i rows) ≡ true
-      → accepted (firsts w (take i rows)) ≡ first_of w values t count
+  pub answer_outside : count ≤ length t → every (inside values) (take count t) ≡ false → refused 15 [] ≡ first_of w values t count
+  answer_outside few e = pass_refused (told false few e)
+
+  pub answer_all : count ≤ length t → every (inside values) (take count t) ≡ true → accepted (firsts w (take count t)) ≡ first_of w values t count
   unfolding first_of
-  pass_whole rows i e few h k =
-      let whole : take i rows ≡ take count t = take_all i rows h ∙ e in
-      ap (λ ps. accepted (firsts w ps)) whole
-      ∙ sym (ap (mapped (λ ps. firsts w (take count t)))
-      (records-inside values t count few
-      ∙ ap (λ b. pick b (accepted (map (valued values) (take count t))) (refused 15 [])) (ap (every (inside values)) (sym whole) ∙ k)))
+  answer_all few e = sym (ap (mapped (λ ps. firsts w (take count t))) (told true few e))
 
   -- what the answer tells of the records
   pub first_refused : (n : ℕ) (vs : List ℕ) → refused n vs ≡ first_of w values t count → records values t count ≡ refused n vs

@@ -107,11 +107,9 @@ fn address_at(
     let Some(place) = found else {
         return Err(Refusal::MissingParameter(tag));
     };
-    let read = SuaAddress::decode(place.value(values), others);
-    if let Ok(address) = &read {
-        move_starts(place.start, &mut others[..address.other_count]);
-    }
-    read
+    let address = SuaAddress::decode(place.value(values), others)?;
+    move_starts(place.start, &mut others[..address.other_count]);
+    Ok(address)
 }
 
 // Reads the first parameter with a tag as an address. 15, 7, then the address's.

@@ -33,7 +33,8 @@ fn place_of(tag: u16) -> Option<usize>
     }
 }
 
-// The first record with each of the seven tags. 15.
+// The first record with each of the seven tags. 15. The pass goes from the last record to the first, so that an earlier one
+// takes the place of a later one.
 pub(crate) fn first_of(lent: Records<'_>, count: usize) -> Result<[Option<Place>; 7], Refusal>
     ensures { outcome_of result ≡ first_of wanted lent.entry.values.now lent.entry.rows.now count }
 {
@@ -42,12 +43,12 @@ pub(crate) fn first_of(lent: Records<'_>, count: usize) -> Result<[Option<Place>
         return Err(Refusal::OutsideSlice);
     };
     let mut first = [None; 7];
-    for &row in rows {
+    for &row in rows.iter().rev() {
         if n < row.start || n - row.start < row.length {
             return Err(Refusal::OutsideSlice);
         }
         if let Some(place) = place_of(row.tag) {
-            first[place] = first[place].or(Some(row));
+            first[place] = Some(row);
         }
     }
     Ok(first)

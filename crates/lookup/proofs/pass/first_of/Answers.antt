@@ -1,52 +1,58 @@
 -- The pass stops at a record that reaches outside; what it has kept at the end is of all records.
-use Rattle.std.proofs.Common.{◌≡◌, ◌-◌, ◌<◌, ◌≤◌, ◌+◌, ◌∙◌, sym, ap, length, take, set, get_or, ℕ, List, [], ◌∷◌, ◌++◌, arith}
-use native.Mathlib.Numerals.{add-one}
-use lib.Seq.{take-suc}
-use Rattle.bcd.specs.Outcome.{accepted}
+use Rattle.std.proofs.Common.{◌≡◌, ◌-◌, ◌<◌, ◌≤◌, ◌+◌, ◌∙◌, sym, ap, length, take, ℕ, List, Iter, None, Some, arith}
+use Rattle.std.specs.Iterator.Adapters.{rev_source}
+use Rattle.std.specs.Slice.Iter.{iter_rest}
+use Rattle.core.specs.declared.iter.adapters.Rev.{Rev}
+use Rattle.bcd.specs.Outcome.{accepted, every}
 use Rattle.parameter.specs.declared.Place.{Place}
-use Rattle.parameter.proofs.Records.{nowhere}
-use Rattle.lookup.specs.Steps.Pass.{wanted, place_among}
-use Rattle.lookup.proofs.Passing.{kept, firsts, kept_more, wanted_different, inside_more, pass_few, pass_outside, pass_whole}
+use Rattle.parameter.proofs.Records.{inside}
+use Rattle.lookup.specs.Steps.Pass.{wanted}
+use Rattle.lookup.proofs.Passing.{firsts, pass_start, pass_next, pass_outside, pass_all, answer_few, answer_outside, answer_all}
 use Rattle.lookup.proofs.pass.first_of.Goals as goal
-use Rattle.lookup.proofs.pass.first_of.Goals.{then-n-row-via-then-n-row, then-n-row-via-else-n-row+then-n-row-2, in-Some-place_of, in_default-place_of}
+use Rattle.lookup.proofs.pass.first_of.Goals.{then-n-row-via-then-n-row, then-n-row-via-else-n-row+then-n-row-2}
 
-front : (t : List Place) (count : ℕ) → take (count - 0) t ≡ take count t
-front t count = let all : count - 0 ≡ count = omega arith in ap (λ n. take n t) all
+-- what the iterator begins with
+lent : {s r : Rev (Iter Place)} {i : Iter Place} {rows : List Place} (t : List Place) (count : ℕ) → s ≡ r → rev_source r ≡ i → iter_rest i ≡ rows → rows ≡ take (count - 0) t → iter_rest (rev_source s) ≡ take count t
+lent t count a b d e =
+    let all : count - 0 ≡ count = omega arith in
+    ap (λ s. iter_rest (rev_source s)) a ∙ ap iter_rest b ∙ d ∙ e ∙ ap (λ n. take n t) all
 
 pub returns-in_default : goal.returns-in_default
-returns-in_default c = pass_few wanted c.args.lent.values.now c.args.lent.rows.now c.args.count (omega (arith, c.in_default.ensures.lookup))
+returns-in_default c = answer_few wanted c.args.lent.values.now c.args.lent.rows.now c.args.count (omega (arith, c.in_default.ensures.lookup))
+
+pub loop-row-init : goal.loop-row-init
+loop-row-init c = pass_start c.args.lent.values.now (iter_rest (rev_source c.into_iter-row-iterator.result))
+
+pub loop-row-preserved-in-Some-place_of : goal.loop-row-preserved-in-Some-place_of
+loop-row-preserved-in-Some-place_of c =
+    pass_next _ c.loop-row.invariant c.in-Some-2.field-0.now c.in-Some-2.ensures.steps
+    (Some c.in-Some-place_of.place) c.in-Some-place_of.ensures (omega (arith, c.if-n-row.false, c.if-n-row-2.false))
+
+pub loop-row-preserved : goal.loop-row-preserved
+loop-row-preserved c =
+    pass_next _ c.loop-row.invariant c.in-Some-2.field-0.now c.in-Some-2.ensures.steps
+    None c.in_default-place_of.ensures (omega (arith, c.if-n-row.false, c.if-n-row-2.false))
 
 pub returns-then-n-row : goal.returns-then-n-row
 returns-then-n-row c =
     let values = c.args.lent.values.now in
-    let p = get_or c.in-Some.rows.now c.loop-row.row-index nowhere in
+    let t = c.args.lent.rows.now in
+    let p = c.in-Some-2.field-0.now in
     let far : length values < p.start + p.length = elim c.then-n-row.branch [
-      | then-n-row-via-then-n-row w ↦ omega (arith, w.if-n-row.true)
+      then-n-row-via-then-n-row w ↦ omega (arith, w.if-n-row.true)
       | then-n-row-via-else-n-row+then-n-row-2 w ↦ omega (arith, w.if-n-row.false, w.if-n-row-2.true)
     ] in
     let ((low, few, range, long), any) = c.in-Some.ensures.lookup in
-    pass_outside wanted values c.args.lent.rows.now c.args.count c.in-Some.rows.now c.loop-row.row-index (range ∙ front _ _) few c.loop-row-test.true far
-
-pub loop-row-preserved : goal.loop-row-preserved
-loop-row-preserved c =
-    let i = c.loop-row.row-index in
-    let rows = c.in-Some.rows.now in
-    let p = get_or rows i nowhere in
-    let more : take (i + 1) rows ≡ take i rows ++ (p ∷ []) = rw add-one (take-suc rows i nowhere c.loop-row-test.true) in
-    let now : c.match-place_of.first ≡ kept (place_among wanted p.tag) p c.loop-row.first = elim c.match-place_of.branch [
-      | in-Some-place_of w ↦ w.first-is ∙ ap (set c.loop-row.first w.in-Some-place_of.place) w.or.ensures
-          ∙ ap (λ o. kept o p c.loop-row.first) w.in-Some-place_of.ensures
-      | in_default-place_of w ↦ w.first-is ∙ ap (λ o. kept o p c.loop-row.first) w.in_default-place_of.ensures
-    ] in
-    record {
-      inside = inside_more c.args.lent.values.now rows i c.loop-row-test.true c.loop-row.invariant.inside (omega (arith, c.if-n-row.false, c.if-n-row-2.false));
-      kept = now ∙ ap (kept (place_among wanted p.tag) p) c.loop-row.invariant.kept
-          ∙ sym (ap (firsts wanted) more ∙ kept_more p wanted (take i rows) wanted_different);
-    }
+    let whole = lent t c.args.count c.into_iter-row-iterator.ensures.into_iter_gives c.rev-row-items.ensures.source c.iter.ensures.rest range in
+    answer_outside wanted values t c.args.count few
+    (ap (every (inside values)) (sym whole) ∙ pass_outside _ c.loop-row.invariant p c.in-Some-2.ensures.steps far)
 
 pub returns : goal.returns
 returns c =
+    let values = c.args.lent.values.now in
+    let t = c.args.lent.rows.now in
     let ((low, few, range, long), any) = c.in-Some.ensures.lookup in
-    ap accepted c.loop-row.invariant.kept
-    ∙ pass_whole wanted c.args.lent.values.now c.args.lent.rows.now c.args.count c.in-Some.rows.now c.loop-row.row-index (range ∙ front _ _) few
-    c.loop-row-test.false c.loop-row.invariant.inside
+    let whole = lent t c.args.count c.into_iter-row-iterator.ensures.into_iter_gives c.rev-row-items.ensures.source c.iter.ensures.rest range in
+    let all = pass_all c.loop-row.invariant c.in-None.ensures.steps.0 ∙ whole in
+    ap accepted (c.loop-row.invariant.kept ∙ ap (firsts wanted) all)
+    ∙ answer_all wanted values t c.args.count few (ap (every (inside values)) (sym all) ∙ c.loop-row.invariant.inside)

@@ -10,7 +10,7 @@ use lib.Dec.{lit<, leb, eqb}
 use lib.ListN.{length, get_or, take, get_or-eq_default}
 use lib.Seq.{get_or-take, length-take-le}
 use Rattle.std.specs.Prelude.{Some, None}
-use Rattle.bcd.specs.Outcome.{Outcome, accepted, pick, after, mapped, most}
+use Rattle.bcd.specs.Outcome.{Outcome, accepted, pick, after, mapped}
 use Rattle.bcd.specs.Answers.{refusal_of}
 use Rattle.bcd.specs.declared.error.Refusal.{Refusal}
 use Rattle.bcd.specs.Digits.{halves, pack, characters, built_in, digits_in, read_digits, written, write_digits, KnownDigits}

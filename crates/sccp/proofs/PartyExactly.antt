@@ -5,11 +5,11 @@ use mathlib.Core.Bool.{Bool, true, false}
 use mathlib.Core.Logic.{◌⊎◌, inl, inr, ⊎_elim, ◌↔◌}
 use mathlib.Core.List.{List, [], ◌∷◌, ◌++◌}
 use native.Mathlib.Omega.{arith}
-use borrow.Author.Tests.{le-leb, leb-true, eq-eqb, eqb-true, ne_eqb}
-use lib.Dec.{leb, eqb}
+use borrow.Author.Tests.{le-leb, leb-true}
+use lib.Dec.{leb}
 use lib.ListN.{length, get_or, drop, length-drop}
 use Rattle.std.specs.Prelude.{Option, None, Some, is_some}
-use Rattle.bcd.specs.Outcome.{Outcome, accepted, refused, pick, after, demand, mapped, Octets, most}
+use Rattle.bcd.specs.Outcome.{Outcome, accepted, pick, after, mapped, Octets, most}
 use Rattle.bcd.specs.Digits.{built_in, digits_in}
 use Rattle.bcd.proofs.Outcomes.{never, after_inv, mapped_inv, demand_inv, all_drop}
 use Rattle.address.specs.Address.{Title, Address, bit, write_address}
@@ -18,7 +18,7 @@ use Rattle.sccp.specs.Facts.{DigitsConvert, TitlePartConverts, title_start, Part
 use Rattle.sccp.proofs.Known.{known-digits, digits-known}
 use Rattle.sccp.proofs.Digits.{Counted, digits_inv}
 use Rattle.sccp.proofs.Parts.{code_small, title_inv}
-use Rattle.sccp.proofs.Parties.{HasParty, party_inv}
+use Rattle.sccp.proofs.Parties.{party_inv}
 use Rattle.sccp.proofs.Back.{from_read, from_party, party_writes}
 
 -- An outcome accepts something.

@@ -6,7 +6,6 @@ use mathlib.Core.List.{List, [], ◌∷◌, ◌++◌, append_assoc}
 use native.Mathlib.Omega.{arith}
 use borrow.Author.Tests.{le-leb}
 use borrow.Rule.Slice.PartMut.{mid_of, put_mid}
-use lib.Dec.{leb}
 use lib.ListN.{length, set, drop, length-append}
 use Rattle.std.specs.Prelude.{Option, None, Some, option_map, unwrap_or, is_some}
 use Rattle.bcd.specs.Outcome.{Outcome, accepted, refused, pick, mapped, deliver}

@@ -1,13 +1,13 @@
 -- An address value that was read, by the parts that the walk keeps: whether it converts, and what it tells.
-use Prim.Native.Nat.{ℕ, ◌+◌, ◌*◌, ◌≤◌}
+use Prim.Native.Nat.{ℕ, ◌+◌, ◌*◌}
 use mathlib.Core.Path.{◌≡◌, refl, sym, ap, ◌∙◌}
 use mathlib.Core.Bool.{Bool, true, false, ◌&&◌}
 use mathlib.Core.List.{List, [], ◌∷◌, map}
 use native.Mathlib.Omega.{arith}
 use borrow.Author.Tests.{ne_eqb, eq-eqb, eqb-true}
-use lib.Dec.{leb, eqb}
+use lib.Dec.{eqb}
 use lib.ListN.{length, get_or, length-map}
-use Rattle.std.specs.Prelude.{Option, None, Some, option_map, is_some}
+use Rattle.std.specs.Prelude.{Option, is_some}
 use Rattle.bcd.specs.Outcome.{Outcome, accepted, refused, pick, after, demand}
 use Rattle.bcd.specs.Answers.{refusal_of}
 use Rattle.bcd.specs.declared.error.Refusal.{Refusal}
@@ -26,7 +26,7 @@ use Rattle.address.proofs.Interpreting.{title_holds, code_holds, sub_holds, othe
 use Rattle.address.proofs.Interpreted.{read_whole}
 use Rattle.address.proofs.Others.{count_known}
 use Rattle.address.proofs.Planning.{map-some}
-use Rattle.sccp.specs.Sccp.{with_parts, same, routes, included, alone, absent_or, title_converts, converts}
+use Rattle.sccp.specs.Sccp.{with_parts, same, routes, alone, absent_or, title_converts, converts}
 use Rattle.sccp.specs.Steps.{plain_parts, convertible}
 use Rattle.sccp.proofs.Parts.{code_small}
 use Rattle.sccp.proofs.Parties.{passes, whole}

@@ -11,9 +11,9 @@ use lib.Seq.{length-take-le}
 use Rattle.std.specs.Prelude.{Option, None, Some, option_map, is_some}
 use Rattle.bcd.specs.Outcome.{Outcome, accepted, refused, pick, after, mapped, each, All, Delivered, deliver}
 use Rattle.bcd.specs.Digits.{built_in}
-use Rattle.bcd.proofs.Outcomes.{accepted_inj, all_append, deliver_answer, deliver_too_long}
+use Rattle.bcd.proofs.Outcomes.{all_append, deliver_answer, deliver_too_long}
 use Rattle.bcd.proofs.Writing.{Begun, begin, extend, extend_all, delivered}
-use Rattle.parameter.specs.Parameter.{Param, param, two, four, padded_length, param_octets, run_octets, run_length, most_value, Sized}
+use Rattle.parameter.specs.Parameter.{Param, param, two, four, param_octets, run_octets, run_length, most_value, Sized}
 use Rattle.parameter.specs.Parameter.{encode_param, frame_param}
 use Rattle.parameter.specs.Table.{over}
 use Rattle.parameter.proofs.RoundTrip.{octets-length, run_length_lem, run_octets-append, encode_accepts}

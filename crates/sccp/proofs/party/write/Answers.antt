@@ -1,7 +1,6 @@
 -- `sccp::party::write` meets its contract: the buffer after each part.
 use native.Mathlib.Omega.{arith}
-use mathlib.Core.Path.{ap, ◌∙◌}
-use Rattle.sccp.proofs.PartyWriting.{party_short, room_code, coded, room_sub, subbed, room_title, titled, party_done}
+use Rattle.sccp.proofs.PartyWriting.{party_short, coded, room_sub, subbed, room_title, titled, party_done}
 use Rattle.sccp.proofs.party.write.Goals as goal
 
 pub returns-then-out-length : goal.returns-then-out-length

@@ -12,7 +12,7 @@ use lib.Dec.{leb}
 use borrow.Rule.Slice.PartMut.{mid_of, put_mid}
 use Rattle.bcd.specs.Outcome.{Outcome, accepted, refused, after, demand, mapped, most, bounded, deliver}
 use Rattle.bcd.proofs.Outcomes.{accepted_inj, never, deliver_refused, demand_inv, after-demand, mapped-demand}
-use Rattle.bcd.proofs.Writing.{Begun, begin, extend, extend_all, delivered}
+use Rattle.bcd.proofs.Writing.{Begun, begin, extend_all, delivered}
 use Rattle.parameter.specs.Parameter.{Param, two, four_in, padded_length, param_octets, most_value, encode_param, wire_length, frame_param, number_in}
 use Rattle.parameter.specs.Walk.{Walked, taken, step_at, decode_param}
 use Rattle.parameter.proofs.RoundTrip.{octets-length}

@@ -6,7 +6,7 @@ use mathlib.Core.Logic.{◌⊎◌, inl, inr}
 use mathlib.Core.List.{List, [], ◌∷◌, map}
 use native.Mathlib.Omega.{arith}
 use lib.Dec.{leb}
-use lib.ListN.{length, take, drop, length-append}
+use lib.ListN.{length, drop, length-append}
 use lib.Seq.{take_at}
 use Rattle.bcd.specs.Outcome.{accepted, refused, pick, each, All}
 use Rattle.bcd.proofs.Outcomes.{accepted_inj, never, each-cons}

@@ -36,7 +36,11 @@ fn store(bytes: &[u8], from: usize, rows: &mut [Place])
 }
 
 // Reads the run of parameters from a position on into a lent slice. 12, then 5 or 6 in wire order, then 13.
-pub fn decode_parameters_from(bytes: &[u8], from: usize, rows: &mut [Place]) -> Result<usize, Refusal>
+pub fn decode_parameters_from(
+    bytes: &[u8],
+    from: usize,
+    rows: &mut [Place],
+) -> Result<usize, Refusal>
     ensures { tabulated (outcome_of result) rows.new
         ≡ tabulate (bounded bytes.now (places bytes.now from)) rows.old }
 {
@@ -113,7 +117,11 @@ impl<'a> Records<'a> {
     {
         let mut at: usize = 0;
         for &row in &self.rows[..count] {
-            put(row.tag, &self.values[row.start..row.start + row.length], &mut out[at..]);
+            put(
+                row.tag,
+                &self.values[row.start..row.start + row.length],
+                &mut out[at..],
+            );
             at += (row.length + 4).next_multiple_of(4);
         }
     }
@@ -144,6 +152,11 @@ impl<'a> Records<'a> {
         if self.outside(count) {
             return Err(Refusal::OutsideSlice);
         }
-        Ok(self.rows[..count].iter().find(|row| row.tag == tag).copied())
+        Ok(
+            self.rows[..count]
+                .iter()
+                .find(|row| row.tag == tag)
+                .copied(),
+        )
     }
 }

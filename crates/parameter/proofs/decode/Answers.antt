@@ -1,10 +1,10 @@
 -- `parameter::decode` meets its contract: it goes on from a step at the front.
-use mathlib.Core.Path.{◌≡◌, sym, ap, ◌∙◌}
+use mathlib.Core.Path.{◌≡◌, ap, ◌∙◌}
 use Prim.Native.Nat.{ℕ}
 use Rattle.std.specs.Prelude.{Err}
 use Rattle.std.proofs.lemmas.Result.{err_from_is_err_and}
-use Rattle.bcd.specs.Outcome.{Outcome, accepted, after, bounded}
-use Rattle.parameter.specs.Walk.{Walked, found, ended, step_at, taken, decode_param}
+use Rattle.bcd.specs.Outcome.{accepted, bounded}
+use Rattle.parameter.specs.Walk.{found, ended, step_at}
 use Rattle.parameter.specs.Answers.{one_of}
 use Rattle.parameter.proofs.Encoding.{decode_step}
 use Rattle.parameter.proofs.decode.Goals as goal

@@ -1,6 +1,5 @@
 -- `parameter::wire_length` meets its contract.
 use mathlib.Core.Path.{◌≡◌, sym, ap, ◌∙◌}
-use Prim.Native.Nat.{◌+◌, ◌*◌, ◌/◌}
 use native.Mathlib.Omega.{arith}
 use Rattle.bcd.specs.Outcome.{accepted}
 use Rattle.parameter.specs.Parameter.{padded_length}

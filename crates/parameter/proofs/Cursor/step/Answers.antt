@@ -6,7 +6,7 @@ use mathlib.Core.Path.{◌≡◌, sym, ◌∙◌}
 use native.Mathlib.Omega.{arith}
 use Rattle.parameter.specs.Parameter.{two_at, round_up}
 use Rattle.bcd.specs.Outcome.{Outcome, most, bounded}
-use Rattle.bcd.proofs.Outcomes.{bounded-within, bounded_beyond}
+use Rattle.bcd.proofs.Outcomes.{bounded-within}
 use Rattle.parameter.specs.Walk.{Walked, step_at}
 use Rattle.parameter.proofs.Walking.{second_two, step_end, step_invalid, step_beyond, step_found}
 use Rattle.parameter.proofs.Cursor.step.Goals as goal

@@ -1,10 +1,8 @@
 -- `parameter::table::decode_parameters_from` meets its contract: the count that was answered is the definition's.
-use mathlib.Core.Path.{refl, sym, ap, ◌∙◌}
-use native.Mathlib.Omega.{arith}
+use mathlib.Core.Path.{sym, ap, ◌∙◌}
 use mathlib.Core.List.{◌++◌}
-use lib.ListN.{length, drop, length-take}
-use lib.Seq.{length-take-le}
-use Rattle.bcd.specs.Outcome.{accepted, mapped, bounded}
+use lib.ListN.{length, drop}
+use Rattle.bcd.specs.Outcome.{mapped, bounded}
 use Rattle.bcd.proofs.Outcomes.{accepted_inj}
 use Rattle.bcd.proofs.Results.{exit}
 use Rattle.parameter.specs.Walk.{places}

@@ -1,6 +1,5 @@
 -- `parameter::table::store` meets its contract: the walk has come past n parameters, whose places are stored.
-use Prim.Native.Nat.{ℕ}
-use mathlib.Core.Path.{◌≡◌, refl, sym, ap, ◌∙◌, subst}
+use mathlib.Core.Path.{◌≡◌, sym, ap, ◌∙◌}
 use native.Mathlib.Omega.{arith}
 use lib.ListN.{length}
 use Rattle.std.specs.Iterator.Adapters.{enumerate_source, enumerate_count}
@@ -9,7 +8,7 @@ use Rattle.bcd.proofs.Outcomes.{never}
 use Rattle.bcd.proofs.Writing.{untouched}
 use Rattle.parameter.specs.declared.Parameters.{Parameters}
 use Rattle.parameter.proofs.Reaching.{passed_none, passed_small, passed_room, passed_refused}
-use Rattle.parameter.proofs.Filling.{Filling, filling_next, filling_end}
+use Rattle.parameter.proofs.Filling.{filling_next, filling_end}
 use Rattle.parameter.proofs.table.store.Goals as goal
 
 pub loop-n-init : goal.loop-n-init

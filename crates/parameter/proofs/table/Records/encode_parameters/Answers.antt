@@ -1,6 +1,5 @@
 -- `parameter::table::Records::encode_parameters` meets its contract: the length that was answered is the definition's.
-use mathlib.Core.Path.{ap, ◌∙◌}
-use Rattle.bcd.specs.Outcome.{after, each, delivered}
+use Rattle.bcd.specs.Outcome.{after, each}
 use Rattle.bcd.proofs.Outcomes.{deliver_too_long}
 use Rattle.bcd.proofs.Results.{exit}
 use Rattle.parameter.specs.Parameter.{encode_param}

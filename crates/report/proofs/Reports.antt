@@ -4,7 +4,7 @@ use mathlib.Core.Path.{◌≡◌, refl}
 use mathlib.Core.List.{List, ◌++◌}
 use mathlib.Core.Logic.{⊎_elim}
 use native.Mathlib.Omega.{arith}
-use lib.ListN.{length, get_or, take, drop, drop_of_length-le}
+use lib.ListN.{length, take, drop, drop_of_length-le}
 use lib.Seq.{take_all}
 use Rattle.bcd.specs.declared.error.Refusal.{Refusal}
 use Rattle.bcd.specs.declared.error.Refusal.TheVariants as R
@@ -39,13 +39,13 @@ numbers-length (accepted n) = refl
 numbers-length (refused n vs) = refl
 
 -- as many numbers as the report has places for are stored
-pub all-stored :
+pub all_stored :
     (o : Outcome ℕ) (ns held : List ℕ) (count : ℕ)
     → ns ≡ numbers o
     → count ≡ min (length held) 4
     → take count ns ++ drop count held ≡ reported o held
 unfolding reported
-all-stored o ns held count e k = rw e (⊎_elim four fewer (le_or_lt 4 (length held)))
+all_stored o ns held count e k = rw e (⊎_elim four fewer (le_or_lt 4 (length held)))
   where
     l : length (numbers o) ≡ 4
     l = numbers-length o

@@ -15,7 +15,12 @@ fn refusal_numbers(refusal: Refusal) -> [u64; 4]
         Refusal::TooShort { expected, actual } => [1, expected as u64, actual as u64, 0],
         Refusal::InvalidVersion(octet) => [2, u64::from(octet), 0, 0],
         Refusal::InvalidMessageClass(octet) => [3, u64::from(octet), 0, 0],
-        Refusal::InvalidMessageType { class, msg_type } => [4, u64::from(class), u64::from(msg_type), 0],
+        Refusal::InvalidMessageType { class, msg_type } => [
+            4,
+            u64::from(class),
+            u64::from(msg_type),
+            0,
+        ],
         Refusal::InvalidParameter { tag, length } => [5, u64::from(tag), u64::from(length), 0],
         Refusal::ParameterTooShort {
             tag,
@@ -55,6 +60,7 @@ fn answer_numbers(answer: Result<usize, Refusal>) -> [u64; 4]
 }
 
 // Stores an answer's numbers in the report, as many of them as it has places, and answers the first.
+#[tactic(auto, using(crate::proofs::Reports::all_stored))]
 pub fn store(answer: Result<usize, Refusal>, report: &mut [u64]) -> u64
     ensures value { result ≡ get_or (numbers (outcome_of answer)) 0 0 }
     ensures report_after { report.new ≡ reported (outcome_of answer) report.old }

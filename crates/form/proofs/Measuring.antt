@@ -7,16 +7,16 @@ use lib.ListN.{length, get_or}
 use Rattle.bcd.specs.Outcome.{Outcome, accepted, refused, after, mapped, bounded, most}
 use Rattle.bcd.specs.Digits.{built_in}
 use Rattle.parameter.specs.declared.Place.{Place}
-use Rattle.parameter.specs.Parameter.{two_at, most_value, run_length}
+use Rattle.parameter.specs.Parameter.{Param, two_at, most_value, run_length}
 use Rattle.parameter.specs.Walk.{ended, found, step_at, valued}
 use Rattle.parameter.proofs.Walking.{Found}
 use Rattle.parameter.proofs.Reaching.{Reached, reached_start, reached_end, reached_refused, walk_step, walk_found, walk_more}
-use Rattle.bcd.proofs.Outcomes.{mapped_inv, bounded-within, octets-of}
+use Rattle.bcd.proofs.Outcomes.{never, mapped_inv, bounded-within, octets-of}
 use Rattle.bcd.proofs.Characters.{built_in_lawful}
 use Rattle.message.specs.declared.header.CommonHeader.{CommonHeader}
 use Rattle.message.specs.Message.{read_header, message_octets}
 use Rattle.message.proofs.Messages.{message-length}
-use Rattle.form.specs.Form.{settled_param}
+use Rattle.form.specs.Form.{settled_param, settled}
 use Rattle.form.specs.Steps.Passes.{settled_run, sum_of}
 use Rattle.form.proofs.Demand3.{form_room}
 use Rattle.form.proofs.Passes.{settled_run_lem, run_walked, run_refused, taken, taken_more, sum_small, value_small}
@@ -61,15 +61,26 @@ module _ {xs : List ℕ} {at : ℕ} {sum : Outcome ℕ} (m : Measuring xs at sum
       → refused k vs ≡ mapped run_length (settled_run built_in xs)
   measured_refused k vs h e = sym (ap (mapped run_length) (run_refused built_in xs k vs (reached_refused m.reached k vs (sym (e ∙ bounded-within xs (step_at xs at) h)))))
 
--- a form is within the bound, so its length fits
-pub run_small :
-    (xs : List ℕ) (h : CommonHeader) (n : ℕ)
-    → ((i : ℕ) → get_or xs i 0 < 256)
-    → read_header xs ≡ accepted h
-    → accepted n ≡ mapped run_length (settled_run built_in xs)
-    → 8 + n ≤ most
-run_small xs h n o e k =
-    let (qs, q, l) = mapped_inv run_length (settled_run built_in xs) (sym k) in
-    let f = settled_run_lem built_in built_in_lawful xs (octets-of xs o) h e ∙ ap (mapped (message_octets h.message_type)) q in
-    let room = (form_room xs _ (octets-of xs o) f).1 in
-    omega (arith, message-length h.message_type qs)
+-- Of octets whose header is read, with what the first pass answers.
+module _ (xs : List ℕ) (o : (i : ℕ) → get_or xs i 0 < 256) (h : CommonHeader) (e : accepted h ≡ read_header xs) where
+  -- The length of a form is the header's and the parameters'.
+  pub length_run : (n : ℕ) → accepted n ≡ mapped run_length (settled_run built_in xs) → accepted (8 + n) ≡ mapped length (settled built_in xs)
+  length_run n k =
+      let (qs, q, l) = mapped_inv run_length (settled_run built_in xs) (sym k) in
+      let f = settled_run_lem built_in built_in_lawful xs (octets-of xs o) h (sym e) ∙ ap (mapped (message_octets h.message_type)) q in
+      ap accepted (ap (λ (i : ℕ). 8 + i) (sym l) ∙ sym (message-length h.message_type qs)) ∙ sym (ap (mapped length) f)
+
+  pub length_refused : (n : ℕ) (vs : List ℕ) → refused n vs ≡ mapped run_length (settled_run built_in xs) → refused n vs ≡ mapped length (settled built_in xs)
+  length_refused n vs k = go (settled_run built_in xs) k ∙ sym (ap (mapped length) (settled_run_lem built_in built_in_lawful xs (octets-of xs o) h (sym e)))
+    where
+      go : (r : Outcome (List Param)) → refused n vs ≡ mapped run_length r → refused n vs ≡ mapped length (mapped (message_octets h.message_type) r)
+      go (accepted qs) k = absurd (never k)
+      go (refused m ws) k = k
+
+  -- A form is within the bound, so its length fits.
+  pub run_small : (n : ℕ) → accepted n ≡ mapped run_length (settled_run built_in xs) → 8 + n ≤ most
+  run_small n k =
+      let (qs, q, l) = mapped_inv run_length (settled_run built_in xs) (sym k) in
+      let f = settled_run_lem built_in built_in_lawful xs (octets-of xs o) h (sym e) ∙ ap (mapped (message_octets h.message_type)) q in
+      let room = (form_room xs _ (octets-of xs o) f).1 in
+      omega (arith, message-length h.message_type qs)

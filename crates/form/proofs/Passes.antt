@@ -54,14 +54,6 @@ module _ (A : Alphabet) (L : Lawful A) (xs : List ℕ) (o : Octets xs) (h : Comm
       go (accepted ps) = refl
       go (refused n vs) = refl
 
-  -- the length of a form is the header's and the parameters'
-  pub length_run : (r : Outcome ℕ) → r ≡ mapped run_length (settled_run A xs) → mapped (λ n. 8 + n) r ≡ mapped length (settled A xs)
-  length_run r k = ap (mapped (λ n. 8 + n)) k ∙ go (settled_run A xs) ∙ sym (ap (mapped length) settled_run_lem)
-    where
-      go : (r : Outcome (List Param)) → mapped (λ n. 8 + n) (mapped run_length r) ≡ mapped length (mapped (message_octets h.message_type) r)
-      go (accepted qs) = ap accepted (sym (message-length h.message_type qs))
-      go (refused n vs) = refl
-
 -- one element more
 pub each_last : {A B : Type 0} (f : A → Outcome (List B)) (xs : List A) (y : A) → each f (xs ++ (y ∷ [])) ≡ after (each f xs) (λ us. mapped (λ vs. us ++ vs) (f y))
 each_last {A} {B} f [] y = go (f y)
@@ -136,23 +128,28 @@ raw_length tag v e c h =
     wire_within tag (length v) h
     ∙ sym (ap (mapped run_length) (settled_other built_in (param tag v) false e c) ∙ ap accepted (one_length (param tag v)))
 
-pub address_length :
-    (tag : ℕ) (v : List ℕ)
-    → is_address tag ≡ true
-    → length v ≤ most_value
-    → after (mapped length (after (read_address built_in v) (write_address built_in tag))) (wire_length tag)
-    ≡ mapped run_length (settled_param built_in (param tag v))
-address_length tag v e h =
-    ap (λ o. after (mapped length o) (wire_length tag)) (rewrite_read tag v h)
-    ∙ go (rewrite_address built_in tag v) refl
-    ∙ sym (ap (mapped run_length) (settled-address built_in (param tag v) e))
-  where
-    go :
-        (o : Outcome (List ℕ))
-        → rewrite_address built_in tag v ≡ o
-        → after (mapped length o) (wire_length tag) ≡ mapped run_length (mapped (λ w. param tag w ∷ []) o)
-    go (accepted w) k = wire_within tag (length w) (rewrite_small tag v w k) ∙ ap accepted (sym (one_length (param tag w)))
-    go (refused n vs) k = refl
+module _ (tag : ℕ) (v : List ℕ) (e : is_address tag ≡ true) (h : length v ≤ most_value) where
+  abbrev rewritten : Outcome ℕ
+  rewritten = mapped length (after (read_address built_in v) (write_address built_in tag))
+
+  rewritten_length : after rewritten (wire_length tag) ≡ mapped run_length (settled_param built_in (param tag v))
+  rewritten_length =
+      ap (λ o. after (mapped length o) (wire_length tag)) (rewrite_read tag v h)
+      ∙ go (rewrite_address built_in tag v) refl
+      ∙ sym (ap (mapped run_length) (settled-address built_in (param tag v) e))
+    where
+      go :
+          (o : Outcome (List ℕ))
+          → rewrite_address built_in tag v ≡ o
+          → after (mapped length o) (wire_length tag) ≡ mapped run_length (mapped (λ w. param tag w ∷ []) o)
+      go (accepted w) k = wire_within tag (length w) (rewrite_small tag v w k) ∙ ap accepted (sym (one_length (param tag w)))
+      go (refused n vs) k = refl
+
+  pub address_length : (n : ℕ) → accepted n ≡ rewritten → wire_length tag n ≡ mapped run_length (settled_param built_in (param tag v))
+  address_length n k = ap (λ o. after o (wire_length tag)) k ∙ rewritten_length
+
+  pub address_refused : (n : ℕ) (vs : List ℕ) → refused n vs ≡ rewritten → refused n vs ≡ mapped run_length (settled_param built_in (param tag v))
+  address_refused n vs k = ap (λ o. after o (wire_length tag)) k ∙ rewritten_length
 
 -- a parameter takes at most 65,536 octets, and so sums stay small
 param_small : (p : Param) (qs : List Param) → length p.value ≤ most_value → settled_param built_in p ≡ accepted qs → run_length qs ≤ 65536

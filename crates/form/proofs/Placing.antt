@@ -34,16 +34,19 @@ counter_placed tag v out t =
     ∙ ap (λ o. deliver (mapped run_octets o) out) (sym (settled_counter built_in (param tag v) t))
 
 -- Any other parameter that is not an address is written as it is.
-pub raw_octets :
-    (tag : ℕ) (v : List ℕ)
+pub raw_placed :
+    (tag : ℕ) (v out d : List ℕ) {a : Outcome ℕ}
     → is_address tag ≡ false
     → is_hop_counter tag ≡ false
     → length v ≤ most_value
-    → encode_param (param tag v) ≡ mapped run_octets (settled_param built_in (param tag v))
-raw_octets tag v t c h =
-    encode_within (param tag v) h
+    → record { answer = a; buffer = d } ≡ deliver (encode_param (param tag v)) out
+    → record { answer = a; buffer = d } ≡ deliver (mapped run_octets (settled_param built_in (param tag v))) out
+raw_placed tag v out d t c h e =
+    e
+    ∙ ap (λ o. deliver o out)
+    (encode_within (param tag v) h
     ∙ ap accepted (sym (one_octets (param tag v)))
-    ∙ sym (ap (mapped run_octets) (settled_other built_in (param tag v) false t c))
+    ∙ sym (ap (mapped run_octets) (settled_other built_in (param tag v) false t c)))
 
 -- An address is written again at the fifth octet, and framed.
 module _ (tag : ℕ) (v out : List ℕ) (t : is_address tag ≡ true) (h : length v ≤ most_value) (p : Placeable (settled_param built_in (param tag v)) (length out)) where

@@ -1,13 +1,13 @@
 -- The whole of settling: the header in front of the output, and the parameters behind it.
-use Prim.Native.Nat.{ℕ, ◌+◌, ◌-◌, ◌≤◌}
+use Prim.Native.Nat.{ℕ, ◌+◌, ◌-◌, ◌≤◌, ◌<◌}
 use mathlib.Core.Path.{◌≡◌, sym, ap, ◌∙◌}
-use mathlib.Core.List.{List}
+use mathlib.Core.List.{List, [], ◌∷◌}
 use native.Mathlib.Omega.{arith}
-use lib.ListN.{length}
+use lib.ListN.{length, get_or}
 use borrow.Rule.Slice.PartMut.{mid_of, put_mid}
-use Rattle.bcd.specs.Outcome.{Outcome, accepted, refused, mapped, Octets, deliver}
+use Rattle.bcd.specs.Outcome.{Outcome, accepted, refused, mapped, deliver}
 use Rattle.bcd.specs.Digits.{built_in}
-use Rattle.bcd.proofs.Outcomes.{mapped_inv, deliver_buffer}
+use Rattle.bcd.proofs.Outcomes.{mapped_inv, octets-of, deliver_refused, deliver_too_long, deliver-passed_on, deliver_buffer}
 use Rattle.bcd.proofs.Writing.{begin}
 use Rattle.bcd.proofs.Characters.{built_in_lawful}
 use Rattle.parameter.specs.Parameter.{run_octets, run_length}
@@ -17,8 +17,30 @@ use Rattle.message.specs.Message.{header_with, header_octets, framed, read_heade
 use Rattle.message.proofs.Listing.{message-done, rest_room}
 use Rattle.form.specs.Form.{settled}
 use Rattle.form.specs.Steps.Passes.{settled_run, Placeable}
-use Rattle.form.proofs.Passes.{settled_run_lem}
+use Rattle.form.proofs.Passes.{settled_refused, settled_run_lem}
+use Rattle.form.proofs.Measuring.{length_run, length_refused}
 use Rattle.form.proofs.Written.{lent-length}
+
+-- What is refused, and the output left as it was.
+pub settle_unread :
+    (xs out : List ℕ) (n : ℕ) (vs : List ℕ)
+    → refused n vs ≡ read_header xs
+    → record { answer = refused n vs; buffer = out } ≡ deliver (settled built_in xs) out
+settle_unread xs out n vs e = rw (settled_refused built_in xs n vs (sym e)) (deliver_refused n vs out)
+
+module _ (xs out : List ℕ) (o : (i : ℕ) → get_or xs i 0 < 256) (h : CommonHeader) (e : accepted h ≡ read_header xs) where
+  pub settle_refused :
+      (n : ℕ) (vs : List ℕ)
+      → refused n vs ≡ mapped run_length (settled_run built_in xs)
+      → record { answer = refused n vs; buffer = out } ≡ deliver (settled built_in xs) out
+  settle_refused n vs k = deliver-passed_on (settled built_in xs) n vs out (length_refused xs o h e n vs k)
+
+  pub settle_short :
+      (run : ℕ)
+      → accepted run ≡ mapped run_length (settled_run built_in xs)
+      → length out < 8 + run
+      → record { answer = refused 14 ((8 + run) ∷ []); buffer = out } ≡ deliver (settled built_in xs) out
+  settle_short run k l = deliver_too_long (settled built_in xs) (8 + run) out (length_run xs o h e run k) l
 
 -- The first pass told what the parameters take, and there is room for them and the header.
 module _ (xs : List ℕ) (run : ℕ) (k : accepted run ≡ mapped run_length (settled_run built_in xs)) (out : List ℕ) (fits : 8 + run ≤ length out) where
@@ -48,19 +70,18 @@ module _ (xs : List ℕ) (run : ℕ) (k : accepted run ≡ mapped run_length (se
           rest_room (run_octets p.params) out d h (mapped run_octets (settled_run built_in xs)) (omega (arith, p.fits)) (ap (mapped run_octets) p.settles) e w
 
       pub whole_written :
-          {b : Outcome ℕ} (m : CommonHeader) (total : ℕ)
-          → Octets xs
-          → read_header xs ≡ accepted m
-          → total ≡ 8 + run
-          → h ≡ header_with m.message_type total
+          {b : Outcome ℕ} (m : CommonHeader)
+          → ((i : ℕ) → get_or xs i 0 < 256)
+          → accepted m ≡ read_header xs
+          → h ≡ header_with m.message_type (8 + run)
           → record { answer = b; buffer = last } ≡ deliver (mapped run_octets (settled_run built_in xs)) (mid_of 8 (length d - 8) d)
-          → record { answer = accepted total; buffer = put_mid 8 (length d - 8) d last } ≡ deliver (settled built_in xs) out
+          → record { answer = accepted (8 + run); buffer = put_mid 8 (length d - 8) d last } ≡ deliver (settled built_in xs) out
       unfolding message_octets
-      whole_written m total o hm t new w =
+      whole_written m o hm new w =
           let (qs, q, l) = mapped_inv run_length (settled_run built_in xs) (sym k) in
-          let size : total ≡ 8 + length (run_octets qs) = t ∙ ap (λ (i : ℕ). 8 + i) (sym l ∙ sym (run_length_lem qs)) in
+          let size : 8 + run ≡ 8 + length (run_octets qs) = ap (λ (i : ℕ). 8 + i) (sym l ∙ sym (run_length_lem qs)) in
           let whole : settled built_in xs ≡ accepted (framed m.message_type (run_octets qs)) =
-          settled_run_lem built_in built_in_lawful xs o m hm ∙ ap (mapped (message_octets m.message_type)) q in
-          message-done m.message_type (run_octets qs) total out d last h (mapped run_octets (settled_run built_in xs))
-          size (omega arith) new (ap (mapped run_octets) q) e w
+          settled_run_lem built_in built_in_lawful xs (octets-of xs o) m (sym hm) ∙ ap (mapped (message_octets m.message_type)) q in
+          message-done m.message_type (run_octets qs) (8 + run) out d last h (mapped run_octets (settled_run built_in xs))
+          size fits new (ap (mapped run_octets) q) e w
           ∙ ap (λ o. deliver o out) (sym whole)

@@ -43,9 +43,9 @@ pub record Placed (xs out d : List ℕ) (from at : ℕ) : Type 0 where
   pub begun : Begun out (run_octets params) d
   pub place : run_length params ≡ at
 
-pub placed-start : (xs out : List ℕ) → Placed xs out out 8 0
+pub placed_start : (xs out : List ℕ) → Placed xs out out 8 0
 unfolding run_octets run_length
-placed-start xs out = record { reached = reached_start xs 8; params = []; so_far = refl; begun = untouched out; place = refl }
+placed_start xs out = record { reached = reached_start xs 8; params = []; so_far = refl; begun = untouched out; place = refl }
 
 -- The part of a buffer that is lent from a place on.
 pub lent-length : (d : List ℕ) (at : ℕ) → length (mid_of at (length d - at) d) ≡ length d - at

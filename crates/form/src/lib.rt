@@ -39,6 +39,7 @@ fn settled_length_of(tag: u16, value: &[u8]) -> Result<usize, Refusal>
 }
 
 // The sum with one parameter more, or the refusal that came first.
+#[tactic(auto, using(crate::proofs::Passes::value_small, crate::proofs::Passes::length_small))]
 fn add(sum: Result<usize, Refusal>, input: &[u8], place: Place) -> Result<usize, Refusal>
     requires place_bound { place.length ≤ most_value }
     requires sum_bound { sum_of (outcome_of sum) ≤ 65536 * most }
@@ -106,6 +107,7 @@ fn write_params(input: &[u8], out: &mut [u8]) -> Result<usize, Refusal>
 }
 
 // Writes the form of a message. Reading's refusals, then each address's, 9, 10 in wire order, then 14.
+#[tactic(auto, using(crate::proofs::Measuring::run_small, message::proofs::Listing::header_within, crate::proofs::Whole::settle_unread, crate::proofs::Whole::settle_refused, crate::proofs::Whole::settle_short, crate::proofs::Whole::behind_head))]
 pub fn settle(input: &[u8], out: &mut [u8]) -> Result<usize, Refusal>
     ensures { delivered (outcome_of result) out.new
         ≡ deliver (settled built_in input.now) out.old }

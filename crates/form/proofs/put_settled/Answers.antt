@@ -1,8 +1,6 @@
 -- `form::put_settled` meets its contract, for an address, a hop counter and any other parameter.
-use mathlib.Core.Path.{refl, sym, ap, ◌∙◌}
-use native.Mathlib.Omega.{arith}
-use Rattle.bcd.specs.Outcome.{mapped, deliver}
-use Rattle.form.proofs.Placing.{counter_placed, raw_octets, room_for_head, never_refused, address_placed}
+use mathlib.Core.Path.{refl, sym, ◌∙◌}
+use Rattle.form.proofs.Placing.{counter_placed, raw_placed, room_for_head, never_refused, address_placed}
 use borrow.Author.Tests.{eq-eqb, ne_eqb}
 use Rattle.form.proofs.put_settled.Goals as goal
 
@@ -29,6 +27,5 @@ returns-then-tag-eq-SS7_HOP_COUNTER c = counter_placed c.args.tag c.args.value.n
 
 pub returns : goal.returns
 returns c =
-    c.encode.ensures
-    ∙ ap (λ o. deliver o c.args.out.now)
-    (raw_octets c.args.tag c.args.value.now (sym c.is_address.ensures ∙ c.if-is_address.false) (ne_eqb _ _ c.if-tag-eq-SS7_HOP_COUNTER.false) c.requires.value_len_bound)
+    raw_placed c.args.tag c.args.value.now c.args.out.now _
+    (sym c.is_address.ensures ∙ c.if-is_address.false) (ne_eqb _ _ c.if-tag-eq-SS7_HOP_COUNTER.false) c.requires.value_len_bound c.encode.ensures

@@ -4,13 +4,13 @@ use mathlib.Core.Path.{◌≡◌, refl, ap, ◌∙◌}
 use native.Mathlib.Omega.{arith}
 use lib.ListN.{get_or}
 use Rattle.bcd.proofs.Outcomes.{accepted_inj, never}
-use Rattle.form.proofs.Written.{known, placed-start, turn, turn_answer, placed_more, placed_end, placed_never}
+use Rattle.form.proofs.Written.{known, placed_start, turn, turn_answer, placed_more, placed_end, placed_never}
 use Rattle.form.proofs.write_params.Goals as goal
 
 pub loop-place-init : goal.loop-place-init
 loop-place-init c =
     let at : c.into_iter-place-iterator.result.at ≡ 8 = cc in
-    (cc, rw at (placed-start c.args.input.now c.args.out.now))
+    (cc, rw at (placed_start c.args.input.now c.args.out.now))
 
 pub returns-in_err-place : goal.returns-in_err-place
 returns-in_err-place c =

@@ -16,10 +16,11 @@ use Rattle.bcd.proofs.Characters.{built_in_lawful}
 use Rattle.message.specs.declared.header.CommonHeader.{CommonHeader}
 use Rattle.message.specs.Message.{read_header, message_octets}
 use Rattle.message.proofs.Messages.{message-length}
+use Rattle.message.proofs.Listing.{header_within}
 use Rattle.form.specs.Form.{settled_param, settled}
 use Rattle.form.specs.Steps.Passes.{settled_run, sum_of}
 use Rattle.form.proofs.Demand3.{form_room}
-use Rattle.form.proofs.Passes.{settled_run_lem, run_walked, run_refused, taken, taken_more, sum_small, value_small}
+use Rattle.form.proofs.Passes.{settled_refused, settled_run_lem, run_walked, run_refused, taken, taken_more, sum_small, value_small}
 
 -- A place that a step found has a value that a length of 16 bits can tell.
 pub found_small : (xs : List ℕ) (at : ℕ) (p : Place) (next : ℕ) → ((i : ℕ) → get_or xs i 0 < 256) → Found xs at p next → p.length ≤ most_value
@@ -84,3 +85,6 @@ module _ (xs : List ℕ) (o : (i : ℕ) → get_or xs i 0 < 256) (h : CommonHead
       let f = settled_run_lem built_in built_in_lawful xs (octets-of xs o) h (sym e) ∙ ap (mapped (message_octets h.message_type)) q in
       let room = (form_room xs _ (octets-of xs o) f).1 in
       omega (arith, message-length h.message_type qs)
+
+-- What `settled_length` needs.
+pub ruleset run_taken = (header_within, settled_refused, length_run, length_refused, run_small)

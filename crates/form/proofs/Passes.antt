@@ -151,6 +151,9 @@ module _ (tag : ℕ) (v : List ℕ) (e : is_address tag ≡ true) (h : length v 
   pub address_refused : (n : ℕ) (vs : List ℕ) → refused n vs ≡ rewritten → refused n vs ≡ mapped run_length (settled_param built_in (param tag v))
   address_refused n vs k = ap (λ o. after o (wire_length tag)) k ∙ rewritten_length
 
+-- What `settled_length_of` needs.
+pub ruleset param_taken = (counter_length, raw_length, address_length, address_refused)
+
 -- a parameter takes at most 65,536 octets, and so sums stay small
 param_small : (p : Param) (qs : List Param) → length p.value ≤ most_value → settled_param built_in p ≡ accepted qs → run_length qs ≤ 65536
 unfolding run_length

@@ -14,11 +14,11 @@ use Rattle.parameter.specs.Parameter.{run_octets, run_length}
 use Rattle.parameter.proofs.RoundTrip.{run_length_lem}
 use Rattle.message.specs.declared.header.CommonHeader.{CommonHeader}
 use Rattle.message.specs.Message.{header_with, header_octets, framed, read_header, write_header, message_octets}
-use Rattle.message.proofs.Listing.{message-done, rest_room}
+use Rattle.message.proofs.Listing.{header_within, message-done, rest_room}
 use Rattle.form.specs.Form.{settled}
 use Rattle.form.specs.Steps.Passes.{settled_run, Placeable}
 use Rattle.form.proofs.Passes.{settled_refused, settled_run_lem}
-use Rattle.form.proofs.Measuring.{length_run, length_refused}
+use Rattle.form.proofs.Measuring.{length_run, length_refused, run_small}
 use Rattle.form.proofs.Written.{lent-length}
 
 -- What is refused, and the output left as it was.
@@ -85,3 +85,6 @@ module _ (xs : List ℕ) (run : ℕ) (k : accepted run ≡ mapped run_length (se
           message-done m.message_type (run_octets qs) (8 + run) out d last h (mapped run_octets (settled_run built_in xs))
           size fits new (ap (mapped run_octets) q) e w
           ∙ ap (λ o. deliver o out) (sym whole)
+
+-- What `settle` needs but for its last step.
+pub ruleset before_writing = (header_within, run_small, settle_unread, settle_refused, settle_short, behind_head)

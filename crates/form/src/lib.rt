@@ -23,7 +23,7 @@ pub fn is_address(tag: u16) -> bool
 }
 
 // What a parameter takes in the form; a hop counter is left out. An address's refusals, 9, 10.
-#[tactic(auto, using(crate::proofs::Passes::counter_length, crate::proofs::Passes::raw_length, crate::proofs::Passes::address_length, crate::proofs::Passes::address_refused))]
+#[tactic(auto, using(crate::proofs::Passes::param_taken))]
 fn settled_length_of(tag: u16, value: &[u8]) -> Result<usize, Refusal>
     requires { length value.now ≤ most_value }
     ensures { outcome_of result ≡ mapped run_length (settled_param built_in (param tag value.now)) }
@@ -65,7 +65,7 @@ fn measure(input: &[u8]) -> Result<usize, Refusal>
 }
 
 // The length of a message's form, with the refusals of settling except 14.
-#[tactic(auto, using(crate::proofs::Passes::settled_refused, crate::proofs::Measuring::length_run, crate::proofs::Measuring::length_refused, message::proofs::Listing::header_within, crate::proofs::Measuring::run_small))]
+#[tactic(auto, using(crate::proofs::Measuring::run_taken))]
 pub fn settled_length(input: &[u8]) -> Result<usize, Refusal>
     ensures { outcome_of result ≡ mapped length (settled built_in input.now) }
 {
@@ -107,7 +107,7 @@ fn write_params(input: &[u8], out: &mut [u8]) -> Result<usize, Refusal>
 }
 
 // Writes the form of a message. Reading's refusals, then each address's, 9, 10 in wire order, then 14.
-#[tactic(auto, using(crate::proofs::Measuring::run_small, message::proofs::Listing::header_within, crate::proofs::Whole::settle_unread, crate::proofs::Whole::settle_refused, crate::proofs::Whole::settle_short, crate::proofs::Whole::behind_head))]
+#[tactic(auto, using(crate::proofs::Whole::before_writing))]
 pub fn settle(input: &[u8], out: &mut [u8]) -> Result<usize, Refusal>
     ensures { delivered (outcome_of result) out.new
         ≡ deliver (settled built_in input.now) out.old }

@@ -2,7 +2,7 @@
 use Rattle.std.proofs.Common.{◌≡◌, ◌-◌, ◌<◌, ◌≤◌, ◌+◌, ◌∙◌, sym, ap, length, take, ℕ, List, Iter, None, Some, arith}
 use Rattle.std.specs.Iterator.Adapters.{rev_source}
 use Rattle.std.specs.Slice.Iter.{iter_rest}
-use Rattle.core.specs.declared.iter.adapters.Rev.{Rev}
+use Rattle.std.specs.declared.iter.adapters.Rev.{Rev}
 use Rattle.bcd.specs.Outcome.{accepted, every}
 use Rattle.parameter.specs.declared.Place.{Place}
 use Rattle.parameter.proofs.Records.{inside}

@@ -58,7 +58,6 @@ impl CommonHeader {
     }
 
     // Writes a header with the version and the length that it holds. 14.
-    #[tactic(auto, unfolding(crate::specs::Message::write_header))]
     pub fn encode(self, out: &mut [u8]) -> Result<usize, Refusal>
         ensures { delivered (outcome_of result) out.new ≡ deliver (write_header self) out.old }
     {

@@ -30,7 +30,6 @@ pub struct SuaMessage {
 impl SuaMessage {
     // Reads a message, and stores the places of its parameters, counted from its first octet. 12, 1, 2, 4, then 5 or 6 in
     // wire order, then 13.
-    #[tactic(auto, unfolding(crate::specs::Listing::list_message, crate::specs::Message::message_places))]
     pub fn decode(bytes: &[u8], rows: &mut [Place]) -> Result<SuaMessage, Refusal>
         ensures { listed (outcome_of result) rows.new ≡ list_message bytes.now rows.old }
     {

@@ -1,30 +1,14 @@
 -- The laws of `outcome_of`: a result by its outcome, and the exit of a `?`.
 use Prim.Native.Nat.{ℕ}
-use mathlib.Core.Path.{◌≡◌, refl, sym, ap, ◌∙◌}
+use mathlib.Core.Path.{◌≡◌, ap, ◌∙◌}
 use mathlib.Core.List.{List}
 use lib.ListN.{length}
-use Rattle.std.specs.Prelude.{Result, Ok, Err, IsErrAnd}
+use Rattle.std.specs.Prelude.{Result, IsErrAnd}
 use Rattle.std.proofs.lemmas.Result.{err_from_is_err_and}
-use Rattle.bcd.specs.Outcome.{Outcome, accepted, refused, after, mapped, deliver}
+use Rattle.bcd.specs.Outcome.{Outcome, refused, after, mapped, deliver}
 use Rattle.bcd.specs.Answers.{refusal_of, outcome_of}
 use Rattle.bcd.specs.declared.error.Refusal.{Refusal}
-use Rattle.bcd.proofs.Outcomes.{accepted_inj, never, deliver-passed_on}
-
--- a result that is known
-pub outcome_ok : {A : Type 0} {r : Result A Refusal} {a : A} → r ≡ Ok a → outcome_of r ≡ accepted a
-outcome_ok e = ap outcome_of e
-
-pub outcome_err : {A : Type 0} {r : Result A Refusal} {e : Refusal} → r ≡ Err e → outcome_of r ≡ refusal_of e
-outcome_err e = ap outcome_of e
-
--- what an outcome tells of the result
-pub ok_from : {A : Type 0} (r : Result A Refusal) (a : A) → outcome_of r ≡ accepted a → r ≡ Ok a
-ok_from (Ok b) a e = ap Ok (accepted_inj e)
-ok_from (Err x) a e = absurd (never e)
-
-pub err_from : {A : Type 0} (r : Result A Refusal) (n : ℕ) (vs : List ℕ) → outcome_of r ≡ refused n vs → (x : Refusal) × (r ≡ Err x) × (refusal_of {A = A} x ≡ refused n vs)
-err_from (Ok a) n vs e = absurd (never (sym e))
-err_from (Err x) n vs e = (x, refl, e)
+use Rattle.bcd.proofs.Outcomes.{deliver-passed_on}
 
 -- a refusal is the same, whatever was to come
 pub refusal_as : {A : Type 0} (B : Type 0) (x : Refusal) {n : ℕ} {vs : List ℕ} → refusal_of {A = A} x ≡ refused n vs → refusal_of {A = B} x ≡ refused n vs

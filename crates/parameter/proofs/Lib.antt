@@ -1,5 +1,4 @@
 -- Laws and theorems that belong to no one function.
-pub mod Lists
 pub mod Walking
 pub mod Structure
 pub mod Padding

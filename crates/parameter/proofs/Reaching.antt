@@ -99,20 +99,6 @@ module _ {xs : List ℕ} {from at : ℕ} (r : Reached xs from at) where
       bounded_beyond xs (places xs from) h ∙ rw (a, b) refl)
       (le_or_lt (length xs) most)
 
-  -- A walk that has come to as many as there are has come to the end.
-  pub reached_all : accepted (length r.done) ≡ mapped length (places xs from) → places xs from ≡ accepted r.done
-  reached_all e = r.left ∙ all_done r.done (places xs at) (ap (mapped length) (sym r.left) ∙ sym e)
-    where
-      all_done :
-          (done : List Place) (o : Outcome (List Place))
-          → mapped length (mapped (λ qs. done ++ qs) o) ≡ accepted (length done)
-          → mapped (λ qs. done ++ qs) o ≡ accepted done
-      all_done done (accepted []) e = rw append-nil
-      all_done done (accepted (q ∷ qs)) e =
-          let z : length (done ++ (q ∷ qs)) ≡ length done = cc in
-          absurd (omega (arith, simp length-append at z))
-      all_done done (refused n vs) e = absurd (never e)
-
 -- Where parameters were counted, the octets are within the bound.
 pub counted-within : (xs : List ℕ) (from n : ℕ) → accepted n ≡ mapped length (bounded xs (places xs from)) → length xs ≤ most
 counted-within xs from n e =

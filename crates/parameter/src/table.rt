@@ -117,11 +117,8 @@ impl<'a> Records<'a> {
     {
         let mut at: usize = 0;
         for &row in &self.rows[..count] {
-            put(
-                row.tag,
-                &self.values[row.start..row.start + row.length],
-                &mut out[at..],
-            );
+            let end = row.start + row.length;
+            put(row.tag, &self.values[row.start..end], &mut out[at..]);
             at += (row.length + 4).next_multiple_of(4);
         }
     }
@@ -152,11 +149,7 @@ impl<'a> Records<'a> {
         if self.outside(count) {
             return Err(Refusal::OutsideSlice);
         }
-        Ok(
-            self.rows[..count]
-                .iter()
-                .find(|row| row.tag == tag)
-                .copied(),
-        )
+        let found = self.rows[..count].iter().find(|row| row.tag == tag);
+        Ok(found.copied())
     }
 }

@@ -26,6 +26,6 @@ returns c =
     let t = c.args.self.rows.now in
     let ps = take c.args.count t in
     let k = told-held c.args.self.values.now t c.args.count _ _ _ c.outside.ensures c.if-outside.false in
-    let f = find_from_yields_List (λ p. eqb p.tag c.args.tag) _ _ c.find.result c.find.ensures.ran (YieldsList-from_slice ps (cc)) (λ x b q k. search (rules, tests)) in
-    ap accepted (c.copied.ensures ∙ copied_is_map c.find.result ∙ f ∙ find_is_first c.args.tag ps)
+    let f = find_from_yields_List (λ p. eqb p.tag c.args.tag) _ _ c.find-found.result c.find-found.ensures.ran (YieldsList-from_slice ps (cc)) (λ x b q k. search (rules, tests)) in
+    ap accepted (c.copied.ensures ∙ copied_is_map c.find-found.result ∙ f ∙ find_is_first c.args.tag ps)
     ∙ sym (find_first c.args.self.values.now t c.args.count c.args.tag _ k.known)

@@ -58,6 +58,7 @@ impl Cursor {
     }
 
     // The parameter at the cursor, with the cursor moved on; none at the end of the run. 12, then 5 or 6.
+    #[inline(always)]
     pub fn step(self, bytes: &[u8]) -> Result<Option<(Place, Cursor)>, Refusal>
         ensures { step_of result ≡ bounded bytes.now (step_at bytes.now self.at) }
     {
@@ -119,6 +120,7 @@ impl<'a> Iterator for Parameters<'a> {
 
     ghost remaining = { λ s. at_most (Left s.bytes.now s.at) };
 
+    #[inline(always)]
     fn next(&mut self) -> Option<Result<Place, Refusal>> {
         match (Cursor { at: self.at }).step(self.bytes) {
             Ok(Some((place, next))) => {

@@ -8,16 +8,22 @@ use lib.ListN.{length, get_or, take, drop, length-drop}
 use lib.Seq.{take-suc}
 use Rattle.bcd.specs.Outcome.{Octets}
 use Rattle.bcd.specs.Digits.{halves, built_in, digits_in}
-use Rattle.bcd.proofs.Outcomes.{octets_at}
+use Rattle.bcd.proofs.Outcomes.{octets_at, all_take, all_drop}
 use Rattle.bcd.proofs.Halves.{halves-length}
 use Rattle.bcd.proofs.Reading.{digits-length, digits-most}
 use Rattle.parameter.specs.Parameter.{four, four_in, two_at}
+use Rattle.parameter.specs.declared.Place.{Place}
+use Rattle.parameter.specs.Walk.{valued}
 use Rattle.address.specs.Address.{title_at}
 use Rattle.address.proofs.Planning.{whole_part}
 use Rattle.flat.specs.Account.{title_fields}
 use Rattle.flat.specs.declared.writer.Writer.{Writer}
 use Rattle.flat.specs.Steps.Emitting.{Writes}
 use Rattle.flat.proofs.Emission.{writes_none, writes_more}
+
+-- a value's octets are octets
+pub value_octets : (v : List ℕ) (p : Place) → Octets v → Octets (valued v p).value
+value_octets v p o = all_take (λ (x : ℕ). x < 256) p.length (drop p.start v) (all_drop (λ (x : ℕ). x < 256) p.start v o)
 
 -- the first i digits
 pub digits_none : (xs : List ℕ) (a : Writer) → Writes a (digits_in built_in xs 0) a

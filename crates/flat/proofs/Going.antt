@@ -1,89 +1,117 @@
 -- How far the account of the parameters has come.
-use Prim.Native.Nat.{ℕ, ◌+◌, ◌*◌, ◌≤◌, ◌<◌}
+use Prim.Native.Nat.{ℕ, ◌+◌, ◌*◌, ◌≤◌}
 use mathlib.Core.Path.{◌≡◌, refl, sym, ap, ◌∙◌, subst}
+use mathlib.Core.Bool.{true, false}
 use mathlib.Core.List.{List, [], ◌∷◌, ◌++◌}
 use native.Mathlib.Omega.{arith}
-use lib.ListN.{length, length-append}
-use Rattle.bcd.specs.Outcome.{Outcome, accepted, refused, after, mapped, each, most}
+use lib.ListN.{length}
+use Rattle.std.specs.Prelude.{Result, Ok, Err, is_ok}
+use Rattle.bcd.specs.Outcome.{Outcome, accepted, refused, after, mapped, each, most, pick, bounded}
+use Rattle.bcd.specs.Answers.{outcome_of}
 use Rattle.bcd.specs.Digits.{built_in}
-use Rattle.bcd.proofs.Outcomes.{accepted_inj, never}
+use Rattle.bcd.specs.declared.error.Refusal.{Refusal}
+use Rattle.bcd.proofs.Outcomes.{accepted_inj, never, bounded-within}
 use Rattle.parameter.specs.declared.Place.{Place}
-use Rattle.parameter.specs.Walk.{found, step_at, places}
-use Rattle.parameter.proofs.Reaching.{Reached, reached_start, reached_next}
-use Rattle.form.specs.Steps.Passes.{sum_of}
-use Rattle.flat.specs.Account.{param_account}
-use Rattle.flat.specs.Steps.Emitting.{emit, Tried, Further, accounts}
+use Rattle.parameter.specs.Walk.{ended, found, step_at, places}
+use Rattle.parameter.proofs.Reaching.{Passed, passed_none, passed_next, passed_end, passed_refused}
 use Rattle.form.proofs.Passes.{each_last}
-use Rattle.flat.proofs.Emission.{emit-append}
+use Rattle.flat.specs.Account.{param_account}
+use Rattle.flat.specs.declared.writer.Writer.{Writer}
+use Rattle.flat.specs.Steps.Emitting.{Writes, Tried, accounts, Accounted}
+use Rattle.flat.proofs.Emission.{writes_none, writes_more}
 
-pub record Going (xs d : List ℕ) (n from : ℕ) (sum : Outcome ℕ) (out : List ℕ) : Type 0 where
-  pub reached : Reached xs 8 n from
-  pub tried : Tried d 6 (each (param_account built_in xs) reached.done) sum out
-  pub small : sum_of sum ≤ 6 + 13 * most * n
-  pub same : length out ≡ length d
+-- Where nothing was refused, a parameter has taken 13 * most octets at most.
+abbrev pub Small : Writer → (n : ℕ) → Outcome (Unit {0}) → Writer → Type 0
+Small a n (accepted u) b = b.at ≤ a.at + 13 * most * n
+Small a n (refused m vs) b = Unit {0}
 
-pub going_start : (xs d : List ℕ) → Going xs d 0 8 (accepted 6) d
-unfolding reached_start emit
-going_start xs d = record {
-  reached = reached_start xs 8;
-  tried = record { told = refl; held = λ os e. ap (emit d 6) (accepted_inj e) };
-  small = omega arith;
-  same = refl;
-}
+pub record Going (xs : List ℕ) (a : Writer) (n : ℕ) (left : List ℕ) (at : ℕ) (o : Outcome (Unit {0})) (b : Writer) : Type 0 where
+  pub passed : Passed xs 8 n left at
+  pub tried : Tried a (each (param_account built_in xs) passed.reached.done) o b
+  pub small : Small a n o b
 
--- one more element
-module _ (xs d : List ℕ) (ps : List Place) (p : Place) (sum answer : Outcome ℕ) (out last : List ℕ)
-    (t : Tried d 6 (each (param_account built_in xs) ps) sum out) (f : Further xs out sum p answer last) where
-  abbrev go : Outcome (List ℕ) → Outcome (List ℕ)
-  go o = after o (λ us. mapped (λ vs. us ++ vs) (param_account built_in xs p))
+pub going_start : (xs : List ℕ) (a : Writer) {left : List ℕ} {at : ℕ} → left ≡ xs → at ≡ 8 → Going xs a 0 left at (accepted (tt {0})) a
+going_start xs a e f = record { passed = passed_none xs 8 _ e f; tried = ([], refl, writes_none a); small = omega arith }
 
-  next : each (param_account built_in xs) (ps ++ (p ∷ [])) ≡ go (each (param_account built_in xs) ps)
-  next = each_last (param_account built_in xs) ps p
+-- whether a parameter was refused
+going_none : true ≡ false → ⊥
+going_none e = let z : ◌≡◌ {A = ℕ} 1 0 = ap (λ t. pick t 1 0) e in omega arith
 
-  sums : (o : Outcome (List ℕ)) (q : Outcome (List ℕ))
-      → after (mapped (λ os. 6 + length os) o) (λ n. mapped (λ os. n + length os) q) ≡ mapped (λ os. 6 + length os) (after o (λ us. mapped (λ vs. us ++ vs) q))
-  sums (accepted us) (accepted vs) = ap accepted (omega (arith, length-append us vs))
-  sums (accepted us) (refused n vs) = refl
-  sums (refused n vs) q = refl
+pub going_ok :
+    {xs : List ℕ} {a : Writer} {n : ℕ} {left : List ℕ} {at : ℕ} {b : Writer} (r : Result (Unit {0}) Refusal)
+    → true ≡ is_ok r
+    → Going xs a n left at (outcome_of r) b
+    → Going xs a n left at (accepted (tt {0})) b
+going_ok (Ok u) e g = g
+going_ok (Err x) e g = absurd (going_none e)
 
-  holds : (o q : Outcome (List ℕ)) → each (param_account built_in xs) ps ≡ o → param_account built_in xs p ≡ q → (os : List ℕ) → after o (λ us. mapped (λ vs. us ++ vs) q) ≡ accepted os → last ≡ emit d 6 os
-  holds (accepted us) (accepted vs) a b os e =
-      f.held (6 + length us) vs (t.told ∙ ap (mapped (λ os. 6 + length os)) a) b
-      ∙ ap (λ (l : List ℕ). emit l (6 + length us) vs) (t.held us a)
-      ∙ sym (emit-append d 6 us vs)
-      ∙ ap (emit d 6) (accepted_inj e)
-  holds (accepted us) (refused n vs) a b os e = absurd (never e)
-  holds (refused n vs) q a b os e = absurd (never e)
+-- the account of one parameter more
+last : (xs : List ℕ) (ps : List Place) (p : Place) {o q : Outcome (List ℕ)}
+    → each (param_account built_in xs) ps ≡ o
+    → param_account built_in xs p ≡ q
+    → each (param_account built_in xs) (ps ++ (p ∷ [])) ≡ after o (λ us. mapped (λ vs. us ++ vs) q)
+last xs ps p e f = rw (each_last (param_account built_in xs) ps p, e, f) refl
 
-  pub tried_more : Tried d 6 (each (param_account built_in xs) (ps ++ (p ∷ []))) answer last
-  tried_more = record {
-    told =
-        f.told
-        ∙ ap (λ s. after s (λ n. mapped (λ os. n + length os) (param_account built_in xs p))) t.told
-        ∙ sums (each (param_account built_in xs) ps) (param_account built_in xs p)
-        ∙ sym (ap (mapped (λ os. 6 + length os)) next);
-    held = λ os e. holds (each (param_account built_in xs) ps) (param_account built_in xs p) refl refl os (sym next ∙ e);
-  }
+lent_by : (a b : Writer) (q : Outcome (List ℕ)) {A : Type 0} (o : Outcome A) → Tried a q o b → b.out.ghost_name ≡ a.out.ghost_name
+lent_by a b q (accepted u) t = t.2.lent
+lent_by a b q (refused n vs) t = t.1
 
-module _ {xs d : List ℕ} {n from : ℕ} {sum : Outcome ℕ} {out : List ℕ} (g : Going xs d n from sum out) where
+module _
+    {xs : List ℕ} {a : Writer} {n : ℕ} {left later : List ℕ} {at : ℕ} {b : Writer} (p : Place) (to : ℕ)
+    (same : later ≡ left) (e : accepted (found p to) ≡ bounded left (step_at left at)) where
+  -- where none was refused before
   pub going_more :
-      (p : Place) (next : ℕ) {answer : Outcome ℕ} {last : List ℕ}
-      → n < length xs
-      → step_at xs from ≡ accepted (found p next)
-      → sum_of answer ≤ sum_of sum + 13 * most
-      → Further xs out sum p answer last
-      → length last ≡ length out
-      → Going xs d (n + 1) next answer last
-  going_more p next {answer} {last} h e k f l = record {
-    reached = reached_next g.reached h p next e;
-    tried = tried_more xs d g.reached.done p sum answer out last g.tried f;
-    small = omega (arith, g.small);
-    same = l ∙ g.same;
+      {c : Writer} (o : Outcome (Unit {0}))
+      → Going xs a n left at (accepted (tt {0})) b
+      → c.at ≤ b.at + 13 * most
+      → Tried b (param_account built_in xs p) o c
+      → Going xs a (n + 1) later to o c
+  going_more (accepted u) g h t = record {
+    passed = passed_next g.passed p to same e;
+    tried = (g.tried.0 ++ t.0, last xs g.passed.reached.done p g.tried.1 t.1, writes_more g.tried.2 t.2);
+    small = omega (arith, g.small, h);
+  }
+  going_more (refused m vs) g h t = record {
+    passed = passed_next g.passed p to same e;
+    tried = (last xs g.passed.reached.done p g.tried.1 t.0, t.1 ∙ g.tried.2.lent);
+    small = tt;
   }
 
-  -- the walk has come to its end
-  pub going_done : places xs 8 ≡ accepted g.reached.done → Tried d 6 (accounts xs) sum out
-  going_done e = let w : accounts xs ≡ each (param_account built_in xs) g.reached.done = rw e in subst (λ (o : Outcome (List ℕ)). Tried d 6 o sum out) (sym w) g.tried
+  -- a refusal stays
+  pub going_refused : (r : Result (Unit {0}) Refusal) → false ≡ is_ok r → Going xs a n left at (outcome_of r) b → Going xs a (n + 1) later to (outcome_of r) b
+  going_refused (Ok u) t g = absurd (going_none (sym t))
+  going_refused (Err x) t g = record {
+    passed = passed_next g.passed p to same e;
+    tried = (last xs g.passed.reached.done p g.tried.0 refl, g.tried.1);
+    small = tt;
+  }
 
-  pub going_count : places xs 8 ≡ accepted g.reached.done → (ps : List Place) → places xs 8 ≡ accepted ps → n ≡ length ps
-  going_count e ps f = sym g.reached.counted ∙ ap length (accepted_inj (sym e ∙ f))
+module _ {xs : List ℕ} {a : Writer} {n : ℕ} {left : List ℕ} {at : ℕ} {b : Writer} (h : length xs ≤ most) where
+  -- the walk has come to its end
+  done : {o : Outcome (Unit {0})} (g : Going xs a n left at o b) → accepted ended ≡ bounded left (step_at left at) → places xs 8 ≡ accepted g.passed.reached.done
+  done g e = sym (bounded-within xs (places xs 8) h) ∙ passed_end g.passed e
+
+  pub going_done : Going xs a n left at (accepted (tt {0})) b → accepted ended ≡ bounded left (step_at left at) → Accounted xs a (accepted n) b
+  going_done g e =
+      let w = done g e in
+      record {
+        tried = (g.tried.0, ap (λ o. after o (each (param_account built_in xs))) w ∙ g.tried.1, g.tried.2);
+        count = λ k ps f i. sym (accepted_inj f) ∙ g.passed.counted ∙ ap length (accepted_inj (sym w ∙ i));
+      }
+
+  pub going_stopped : (m : ℕ) (vs : List ℕ) → Going xs a n left at (refused m vs) b → accepted ended ≡ bounded left (step_at left at) → Accounted xs a (refused m vs) b
+  going_stopped m vs g e =
+      let w = done g e in
+      record {
+        tried = (ap (λ o. after o (each (param_account built_in xs))) w ∙ g.tried.0, g.tried.1);
+        count = λ k ps f i. absurd (never f);
+      }
+
+  -- the walk is refused
+  pub going_out : {o : Outcome (Unit {0})} (m : ℕ) (vs : List ℕ) → Going xs a n left at o b → refused m vs ≡ bounded left (step_at left at) → Accounted xs a (refused m vs) b
+  going_out {o} m vs g e =
+      let w = sym (bounded-within xs (places xs 8) h) ∙ passed_refused g.passed m vs e in
+      record {
+        tried = (ap (λ o. after o (each (param_account built_in xs))) w, lent_by a b _ o g.tried);
+        count = λ k ps f i. absurd (never f);
+      }

@@ -179,7 +179,7 @@ impl<'a> Writer<'a> {
     {
         self.place(place);
         if is_address(place.tag) {
-            self.address(place.value(input), place.start)?;
+            return self.address(place.value(input), place.start);
         }
         Ok(())
     }
@@ -191,14 +191,14 @@ impl<'a> Writer<'a> {
         requires at_bound { self.old.at ≤ 2 ^ 53 }
         ensures { Accounted input.now self.old (outcome_of result) self.new }
     {
-        let mut told = Ok(());
         let mut n: usize = 0;
+        let mut told = Ok(());
         for place in Parameters::new(input, CommonHeader::SIZE) {
             let place = place?;
+            n += 1;
             if told.is_ok() {
                 told = self.param(input, place);
             }
-            n += 1;
         }
         told?;
         Ok(n)

@@ -27,26 +27,16 @@ overflow_add-start c =
     let f = walk_found c.args.value.now c.loop-place.place-iterator.at s.1 in
     omega (arith, f.inside, c.requires.value_bound)
 
-pub place-requires-clause-start_bound : goal.place-requires-clause-start_bound
-place-requires-clause-start_bound c =
+pub place-requires : goal.place-requires
+place-requires c =
     let i = c.loop-place.invariant in
     let s = rw (c.in-Ok.is, i.0) at c.in-Some.ensures.steps in
     let f = walk_found c.args.value.now c.loop-place.place-iterator.at s.1 in
-    omega (arith, f.inside, c.requires.value_bound)
-
-pub place-requires-clause-length_bound : goal.place-requires-clause-length_bound
-place-requires-clause-length_bound c =
-    let i = c.loop-place.invariant in
-    let s = rw (c.in-Ok.is, i.0) at c.in-Some.ensures.steps in
-    let f = walk_found c.args.value.now c.loop-place.place-iterator.at s.1 in
-    omega (arith, f.inside, c.requires.value_bound)
-
-pub place-requires-clause-at_bound : goal.place-requires-clause-at_bound
-place-requires-clause-at_bound c =
-    let i = c.loop-place.invariant in
-    let s = rw (c.in-Ok.is, i.0) at c.in-Some.ensures.steps in
-    let f = walk_found c.args.value.now c.loop-place.place-iterator.at s.1 in
-    omega (arith, i.1.small, f.least, f.within, c.requires)
+    record {
+      start_bound = omega (arith, f.inside, c.requires.value_bound);
+      length_bound = omega (arith, f.inside, c.requires.value_bound);
+      at_bound = omega (arith, i.1.small, f.least, f.within, c.requires);
+    }
 
 pub loop-place-preserved-then-is_other : goal.loop-place-preserved-then-is_other
 loop-place-preserved-then-is_other c =

@@ -95,6 +95,7 @@ module _ {xs : List ℕ} {a : Writer} {n : ℕ} {left : List ℕ} {at : ℕ} {b 
   going_done g e =
       let w = done g e in
       record {
+        lent = g.tried.2.lent;
         tried = (g.tried.0, ap (λ o. after o (each (param_account built_in xs))) w ∙ g.tried.1, g.tried.2);
         count = λ k ps f i. sym (accepted_inj f) ∙ g.passed.counted ∙ ap length (accepted_inj (sym w ∙ i));
       }
@@ -103,6 +104,7 @@ module _ {xs : List ℕ} {a : Writer} {n : ℕ} {left : List ℕ} {at : ℕ} {b 
   going_stopped m vs g e =
       let w = done g e in
       record {
+        lent = g.tried.1;
         tried = (ap (λ o. after o (each (param_account built_in xs))) w ∙ g.tried.0, g.tried.1);
         count = λ k ps f i. absurd (never f);
       }
@@ -112,6 +114,7 @@ module _ {xs : List ℕ} {a : Writer} {n : ℕ} {left : List ℕ} {at : ℕ} {b 
   going_out {o} m vs g e =
       let w = sym (bounded-within xs (places xs 8) h) ∙ passed_refused g.passed m vs e in
       record {
+        lent = lent_by a b _ o g.tried;
         tried = (ap (λ o. after o (each (param_account built_in xs))) w, lent_by a b _ o g.tried);
         count = λ k ps f i. absurd (never f);
       }

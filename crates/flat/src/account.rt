@@ -226,5 +226,5 @@ pub fn read(input: &[u8], out: &mut [u8]) -> Result<usize, Refusal>
     account.put(&[class, msg_type]);
     account.put(&(count as u32).to_be_bytes());
     account.params(input)?;
-    Ok(total)
+    Ok(account.at)
 }

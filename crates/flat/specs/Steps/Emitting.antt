@@ -52,5 +52,6 @@ abbrev pub accounts : List ℕ → Outcome (List ℕ)
 accounts xs = after (places xs 8) (each (param_account built_in xs))
 
 pub record Accounted (xs : List ℕ) (a : Writer) (answer : Outcome ℕ) (b : Writer) : Type 0 where
+  pub lent : b.out.ghost_name ≡ a.out.ghost_name
   pub tried : Tried a (accounts xs) answer b
   pub count : (n : ℕ) (ps : List Place) → answer ≡ accepted n → places xs 8 ≡ accepted ps → n ≡ length ps

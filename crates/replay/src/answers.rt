@@ -1,4 +1,6 @@
 // What calls answer, as words: `ok` and numbers, `none`, `yes`, `no`, or `refused`, the refusal's number and its values.
+ghost use Rattle.std.specs.Prelude.{◌<◌};
+
 use crate::line::Line;
 use bcd::error::Refusal;
 use message::SuaMessage;
@@ -13,14 +15,20 @@ pub(crate) trait Answer {
     fn show(&self, line: &mut Line) -> fmt::Result;
 }
 
-// How many values a refusal of a number has.
-fn values(which: u64) -> usize
+// How many values a refusal has.
+fn values(refusal: &Refusal) -> usize
     ensures { result < 4 }
 {
-    match which {
-        1 | 4 | 5 | 10 => 2,
-        6 => 3,
-        15..=18 => 0,
+    match refusal {
+        Refusal::ParameterTooShort { .. } => 3,
+        Refusal::TooShort { .. }
+        | Refusal::InvalidMessageType { .. }
+        | Refusal::InvalidParameter { .. }
+        | Refusal::ValueTooLong { .. } => 2,
+        Refusal::OutsideSlice
+        | Refusal::InvalidTally
+        | Refusal::UnconvertibleAddress
+        | Refusal::InvalidSccpAddress => 0,
         _ => 1,
     }
 }
@@ -28,9 +36,9 @@ fn values(which: u64) -> usize
 impl Answer for Refusal {
     fn show(&self, line: &mut Line) -> fmt::Result {
         let mut list = [0u64; 4];
-        let which = report::store(Err(*self), &mut list);
+        report::store(Err(*self), &mut list);
         line.word(b"refused")?;
-        line.numbers(&list[..values(which) + 1])
+        line.numbers(&list[..values(self) + 1])
     }
 }
 

@@ -6,6 +6,14 @@ use message::SuaMessage;
 use parameter::Place;
 use parameter::table::Records;
 
+// How the handling fields are read.
+#[derive(Clone, Copy)]
+pub(crate) enum Work {
+    Nothing,
+    Accessors,
+    Screen,
+}
+
 // A message's octets, and the rows of its parameters.
 #[derive(Drop)]
 pub(crate) struct Lent<'a> {
@@ -51,7 +59,7 @@ fn screen(sum: Sum, m: SuaMessage, lent: Records) -> Sum {
 }
 
 // The sum of so many rounds of a work on the message of the first n octets; 0 where it is refused.
-pub(crate) fn rounds(work: u8, count: u32, n: usize, lent: &mut Lent) -> u64 {
+pub(crate) fn rounds(work: Work, count: u32, n: usize, lent: &mut Lent) -> u64 {
     let octets = &lent.octets[..n.min(8192)];
     let Ok(m) = SuaMessage::decode(octets, lent.rows) else {
         return 0;
@@ -60,9 +68,9 @@ pub(crate) fn rounds(work: u8, count: u32, n: usize, lent: &mut Lent) -> u64 {
     for i in 0..count {
         lent.alter(i);
         sum = match work {
-            1 => seven(sum, m, lent.records()),
-            2 => screen(sum, m, lent.records()),
-            _ => sum.add(&1u64),
+            Work::Accessors => seven(sum, m, lent.records()),
+            Work::Screen => screen(sum, m, lent.records()),
+            Work::Nothing => sum.add(&1u64),
         };
     }
     sum.0

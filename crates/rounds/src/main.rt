@@ -12,6 +12,28 @@ mod titles;
 use handling::Lent;
 use parameter::Place;
 
+// What is done in each round.
+#[derive(Clone, Copy)]
+enum Work {
+    Handling(handling::Work),
+    Titles(titles::Work),
+}
+
+impl Work {
+    // The work of a number.
+    fn of(number: u8) -> Work {
+        match number {
+            0 => Work::Handling(handling::Work::Nothing),
+            1 => Work::Handling(handling::Work::Accessors),
+            2 => Work::Handling(handling::Work::Screen),
+            3 => Work::Titles(titles::Work::Alone),
+            4 => Work::Titles(titles::Work::Title),
+            5 => Work::Titles(titles::Work::Address),
+            _ => Work::Titles(titles::Work::Nothing),
+        }
+    }
+}
+
 // Standard input and standard output, as the system numbers them.
 const STDIN: i32 = 0;
 
@@ -23,11 +45,11 @@ fn main() {
     let mut rows = [Place { tag: 0, start: 0, length: 0 }; 1001];
     io::read_full(STDIN, &mut order);
     let n = io::read_full(STDIN, &mut octets);
-    let [work, a, b, c, d] = order;
+    let [number, a, b, c, d] = order;
     let rounds = u32::from_be_bytes([a, b, c, d]);
-    let sum = match titles::Work::of(work) {
-        Some(work) => titles::rounds(work, rounds, n, &mut octets),
-        None => {
+    let sum = match Work::of(number) {
+        Work::Titles(work) => titles::rounds(work, rounds, n, &mut octets),
+        Work::Handling(work) => {
             let mut lent = Lent {
                 octets: &mut octets,
                 rows: &mut rows,

@@ -16,19 +16,6 @@ pub(crate) enum Work {
     Nothing,
 }
 
-impl Work {
-    // The work of a number above 2.
-    pub(crate) fn of(number: u8) -> Option<Work> {
-        match number {
-            0..=2 => None,
-            3 => Some(Work::Alone),
-            4 => Some(Work::Title),
-            5 => Some(Work::Address),
-            _ => Some(Work::Nothing),
-        }
-    }
-}
-
 // The value of a refusal: the octet that is no digit, or how long the output is to be.
 fn value(refusal: Refusal) -> u64 {
     match refusal {

@@ -1,6 +1,4 @@
 // The handling fields of a message: seven accessors, one after the other, beside the one walk.
-ghost use Rattle.std.specs.Prelude.{◌≤◌};
-
 use crate::sums::Sum;
 use message::SuaMessage;
 use parameter::Place;
@@ -16,9 +14,9 @@ pub(crate) enum Work {
 
 // A message's octets, and the rows of its parameters.
 #[derive(Drop)]
-pub(crate) struct Lent<'a> {
-    pub(crate) octets: &'a mut [u8; 8192],
-    pub(crate) rows: &'a mut [Place; 1001],
+struct Lent<'a> {
+    octets: &'a mut [u8; 8192],
+    rows: &'a mut [Place; 1001],
 }
 
 impl<'a> Lent<'a> {
@@ -59,11 +57,17 @@ fn screen(sum: Sum, m: SuaMessage, lent: Records) -> Sum {
 }
 
 // The sum of so many rounds of a work on the message of the first n octets; 0 where it is refused.
-pub(crate) fn rounds(work: Work, count: u32, n: usize, lent: &mut Lent) -> u64 {
-    let octets = &lent.octets[..n.min(8192)];
-    let Ok(m) = SuaMessage::decode(octets, lent.rows) else {
+pub(crate) fn rounds(
+    work: Work,
+    count: u32,
+    n: usize,
+    octets: &mut [u8; 8192],
+    rows: &mut [Place; 1001],
+) -> u64 {
+    let Ok(m) = SuaMessage::decode(&octets[..n.min(8192)], rows) else {
         return 0;
     };
+    let mut lent = Lent { octets, rows };
     let mut sum = Sum(0);
     for i in 0..count {
         lent.alter(i);

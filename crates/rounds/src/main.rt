@@ -9,7 +9,6 @@ mod handling;
 mod sums;
 mod titles;
 
-use handling::Lent;
 use parameter::Place;
 
 // What is done in each round.
@@ -49,13 +48,7 @@ fn main() {
     let rounds = u32::from_be_bytes([a, b, c, d]);
     let sum = match Work::of(number) {
         Work::Titles(work) => titles::rounds(work, rounds, n, &mut octets),
-        Work::Handling(work) => {
-            let mut lent = Lent {
-                octets: &mut octets,
-                rows: &mut rows,
-            };
-            handling::rounds(work, rounds, n, &mut lent)
-        }
+        Work::Handling(work) => handling::rounds(work, rounds, n, &mut octets, &mut rows),
     };
     io::print_decimal(STDOUT, sum);
     io::write_all(STDOUT, b"\n");

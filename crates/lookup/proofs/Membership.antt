@@ -1,7 +1,7 @@
 -- Several routing contexts together: yes exactly under document 02's conditions, and what one context compared with one number is.
-use Prim.Native.Nat.{ℕ, zero, suc, ◌+◌, ◌*◌, ◌/◌, ◌%◌, ◌≤◌, ◌<◌}
+use Prim.Native.Nat.{ℕ, zero, suc, ◌*◌, ◌/◌, ◌%◌, ◌≤◌, ◌<◌}
 use mathlib.Core.Path.{◌≡◌, refl, sym, ap, ap₂, ◌∙◌, subst}
-use mathlib.Core.Bool.{Bool, true, false, ◌&&◌, ◌||◌, and-true, and-false, or-false}
+use mathlib.Core.Bool.{Bool, true, false, ◌&&◌, ◌||◌, and-true, or-false}
 use mathlib.Core.Logic.{◌↔◌}
 use Rattle.std.specs.Prelude.{Option, None, Some}
 use Rattle.std.specs.Int.{w32, from_be_bytes}
@@ -9,10 +9,8 @@ use Rattle.std.specs.List.{list_any, list_all}
 use Rattle.std.specs.Simd.{first_chunks}
 use mathlib.Core.List.{List, [], ◌∷◌}
 use native.Mathlib.Omega.{arith}
-use native.Mathlib.Nat.{add-zero}
 use lib.Dec.{eqb, ltb}
-use lib.ListN.{length, get_or, drop, length-drop}
-use lib.Seq.{drop-length, get_or-drop, drop-drop}
+use lib.ListN.{length, drop}
 use borrow.Author.Tests.{eq-eqb, lt-ltb}
 use Rattle.bcd.specs.Outcome.{Outcome, accepted, refused, mapped, All, every, among}
 use Rattle.bcd.proofs.Outcomes.{accepted_inj, never}

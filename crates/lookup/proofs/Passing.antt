@@ -1,14 +1,12 @@
 -- One pass over the records: what it keeps for a tag is the first record with it.
-use Prim.Native.Nat.{ℕ, zero, suc, ◌+◌, ◌≤◌, ◌<◌}
+use Prim.Native.Nat.{ℕ, suc, ◌+◌, ◌≤◌, ◌<◌}
 use mathlib.Core.Path.{◌≡◌, refl, sym, ap, ap₂, ◌∙◌}
 use mathlib.Core.Bool.{Bool, true, false, ◌&&◌, and_assoc, and-false}
 use Rattle.std.specs.Prelude.{Option, None, Some, option_map}
-use Rattle.std.specs.Option.{option_or}
 use mathlib.Core.List.{List, [], ◌∷◌, ◌++◌, map, append_assoc, append-nil}
 use lib.Dec.{eqb}
 use native.Mathlib.Omega.{arith}
-use lib.ListN.{length, get_or, set, take, drop}
-use lib.Seq.{take-suc, take_all, split_at}
+use lib.ListN.{length, set, take}
 use borrow.Author.Tests.{eqb-true, le-leb, lt-leb}
 use Rattle.bcd.specs.Outcome.{Outcome, accepted, refused, mapped, pick, every}
 use Rattle.bcd.proofs.Outcomes.{never, mapped_inv}
@@ -16,7 +14,7 @@ use Rattle.parameter.specs.declared.Place.{Place}
 use Rattle.parameter.specs.Parameter.{Param}
 use Rattle.parameter.specs.Walk.{valued}
 use Rattle.parameter.specs.Table.{Table, records, first_with}
-use Rattle.parameter.proofs.Records.{nowhere, inside, records_few, records-inside}
+use Rattle.parameter.proofs.Records.{inside, records_few, records-inside}
 use Rattle.lookup.specs.Steps.Pass.{wanted, place_among, first_of}
 
 -- One record more in front of the others: it is the first with its tag.

@@ -1,8 +1,8 @@
 -- Several routing contexts together (document 02, CR 6): one parameter lists 32-bit values (RFC 3868, 3.9, 0x0006), and a
 -- member signs for a set of them.
-use Rattle.std.specs.Prelude.{ℕ, ◌*◌, ◌%◌, ◌<◌, ◌≡◌, Bool, true, false, ◌&&◌, List, [], ◌∷◌, length, get_or, drop, eqb, ltb}
+use Rattle.std.specs.Prelude.{ℕ, ◌*◌, ◌%◌, ◌<◌, ◌≡◌, Bool, false, ◌&&◌, List, [], ◌∷◌, length, get_or, drop, eqb, ltb}
 use Rattle.std.specs.Prelude.{Option, None, Some}
-use Rattle.bcd.specs.Outcome.{Outcome, accepted, mapped, every, among}
+use Rattle.bcd.specs.Outcome.{Outcome, mapped, every, among}
 use Rattle.parameter.specs.declared.Place.{Place}
 use Rattle.parameter.specs.Parameter.{four_in}
 use Rattle.parameter.specs.Walk.{valued}

@@ -2,7 +2,6 @@
 use Rattle.std.proofs.Common.{◌≡◌, ◌∙◌, ◌++◌, sym, ap, ℕ, drop, List, Fits, w8, get_or, arith}
 use lib.Seq.{length-take-le}
 use Rattle.bcd.specs.Outcome.{Outcome, accepted}
-use Rattle.bcd.specs.Answers.{refusal_of}
 use Rattle.bcd.proofs.Outcomes.{octets-of}
 use Rattle.bcd.proofs.Results.{exit}
 use Rattle.parameter.specs.declared.Place.{Place}

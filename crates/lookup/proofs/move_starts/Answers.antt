@@ -1,5 +1,5 @@
 -- A turn moves one start more.
-use Rattle.std.proofs.Common.{◌≡◌, ◌+◌, ◌<◌, ◌^◌, ◌∙◌, sym, ap, suc, ℕ, set, get_or, arith}
+use Rattle.std.proofs.Common.{◌≡◌, ◌+◌, ◌<◌, ◌^◌, ◌∙◌, sym, ap, ℕ, set, get_or, arith}
 use native.Mathlib.Numerals.{add-one}
 use Rattle.bcd.proofs.Outcomes.{all_at}
 use Rattle.parameter.specs.declared.Place.{Place}

@@ -1,7 +1,7 @@
 -- The records that one pass keeps: for each of a list of tags, the first record with it.
-use Rattle.std.specs.Prelude.{ℕ, zero, suc, List, [], ◌∷◌, map, take, eqb}
+use Rattle.std.specs.Prelude.{ℕ, suc, List, [], ◌∷◌, map, take, eqb}
 use Rattle.std.specs.Prelude.{Option, None, Some, option_map, Err}
-use Rattle.bcd.specs.Outcome.{Outcome, accepted, pick, mapped}
+use Rattle.bcd.specs.Outcome.{Outcome, pick, mapped}
 use Rattle.parameter.specs.declared.Place.{Place}
 use Rattle.parameter.specs.Table.{Table, records, first_with}
 use Rattle.bcd.specs.declared.error.Refusal.{Refusal}

@@ -1,5 +1,5 @@
 -- The pass stops at a record that reaches outside; what it has kept at the end is of all records.
-use Rattle.std.proofs.Common.{◌≡◌, ◌-◌, ◌<◌, ◌≤◌, ◌+◌, ◌∙◌, sym, ap, length, take, ℕ, List, Iter, None, Some, arith}
+use Rattle.std.proofs.Common.{◌≡◌, ◌-◌, ◌<◌, ◌+◌, ◌∙◌, sym, ap, length, take, ℕ, List, None, Some, arith}
 use Rattle.std.specs.Iterator.Adapters.{rev_source}
 use Rattle.std.specs.Slice.Iter.{iter_rest}
 use Rattle.bcd.specs.Outcome.{accepted, every}
@@ -11,10 +11,16 @@ use Rattle.lookup.proofs.pass.first_of.Goals as goal
 use Rattle.lookup.proofs.pass.first_of.Goals.{then-n-row-via-then-n-row, then-n-row-via-else-n-row+then-n-row-2}
 
 -- what the iterator begins with
-lent : {S : Type 0} (source : S → Iter Place) {s r : S} {i : Iter Place} {rows : List Place} (t : List Place) (count : ℕ) → s ≡ r → source r ≡ i → iter_rest i ≡ rows → rows ≡ take (count - 0) t → iter_rest (source s) ≡ take count t
-lent source t count a b d e =
+lent :
+    {S I : Type 0} (source : S → I) (rest : I → List Place) {s r : S} {i : I} {rows : List Place} (t : List Place) (count : ℕ)
+    → s ≡ r
+    → source r ≡ i
+    → rest i ≡ rows
+    → rows ≡ take (count - 0) t
+    → rest (source s) ≡ take count t
+lent source rest t count a b d e =
     let all : count - 0 ≡ count = omega arith in
-    ap (λ s. iter_rest (source s)) a ∙ ap iter_rest b ∙ d ∙ e ∙ ap (λ n. take n t) all
+    ap (λ s. rest (source s)) a ∙ ap rest b ∙ d ∙ e ∙ ap (λ n. take n t) all
 
 pub returns-in_default : goal.returns-in_default
 returns-in_default c = answer_few wanted c.args.lent.values.now c.args.lent.rows.now c.args.count (omega (arith, c.in_default.ensures.lookup))
@@ -38,11 +44,11 @@ returns-then-n-row c =
     let t = c.args.lent.rows.now in
     let p = c.in-Some-2.field-0.now in
     let far : length values < p.start + p.length = elim c.then-n-row.branch [
-      then-n-row-via-then-n-row w ↦ omega (arith, w.if-n-row.true)
+      | then-n-row-via-then-n-row w ↦ omega (arith, w.if-n-row.true)
       | then-n-row-via-else-n-row+then-n-row-2 w ↦ omega (arith, w.if-n-row.false, w.if-n-row-2.true)
     ] in
     let ((low, few, range, long), any) = c.in-Some.ensures.lookup in
-    let whole = lent rev_source t c.args.count c.into_iter-row-iterator.ensures.into_iter_gives c.rev-row-items.ensures.source c.iter.ensures.rest range in
+    let whole = lent rev_source iter_rest t c.args.count c.into_iter-row-iterator.ensures.into_iter_gives c.rev-row-items.ensures.source c.iter.ensures.rest range in
     answer_outside wanted values t c.args.count few
     (ap (every (inside values)) (sym whole) ∙ pass_outside _ c.loop-row.invariant p c.in-Some-2.ensures.steps far)
 
@@ -51,7 +57,7 @@ returns c =
     let values = c.args.lent.values.now in
     let t = c.args.lent.rows.now in
     let ((low, few, range, long), any) = c.in-Some.ensures.lookup in
-    let whole = lent rev_source t c.args.count c.into_iter-row-iterator.ensures.into_iter_gives c.rev-row-items.ensures.source c.iter.ensures.rest range in
+    let whole = lent rev_source iter_rest t c.args.count c.into_iter-row-iterator.ensures.into_iter_gives c.rev-row-items.ensures.source c.iter.ensures.rest range in
     let all = pass_all c.loop-row.invariant c.in-None.ensures.steps.0 ∙ whole in
     ap accepted (c.loop-row.invariant.kept ∙ ap (firsts wanted) all)
     ∙ answer_all wanted values t c.args.count few (ap (every (inside values)) (sym all) ∙ c.loop-row.invariant.inside)

@@ -1,5 +1,5 @@
 -- What the pass kept for each tag is what its accessor finds.
-use Rattle.std.proofs.Common.{◌≡◌, ◌∙◌, sym, ap, List, get_or}
+use Rattle.std.proofs.Common.{◌∙◌, sym, ap, List, get_or}
 use Rattle.std.specs.Prelude.{Option, None}
 use Rattle.bcd.specs.Outcome.{accepted}
 use Rattle.parameter.specs.declared.Place.{Place}

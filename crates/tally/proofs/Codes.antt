@@ -2,20 +2,20 @@
 use Prim.Native.Nat.{ℕ, ◌+◌, ◌-◌, ◌*◌, ◌^◌, ◌≤◌, ◌<◌}
 use mathlib.Core.Path.{◌≡◌, refl, sym, ap, ap₂, ◌∙◌}
 use mathlib.Core.Logic.{⊎_elim}
-use mathlib.Core.Bool.{Bool, true, false, not, ◌&&◌, ◌||◌, and-false, or-false}
+use mathlib.Core.Bool.{Bool, true, false, not, ◌&&◌, ◌||◌}
 use mathlib.Core.List.{List, [], ◌∷◌, ◌++◌, map}
 use native.Mathlib.Omega.{arith}
 use native.Mathlib.Numerals.{add-one}
 use native.Mathlib.Nat.{pow-suc, pow-le-pow_right}
 use lib.Dec.{lit<, eqb}
-use lib.ListN.{length, get_or, take, drop, length-map, take-append-drop}
-use lib.Seq.{take-suc, take-take}
+use lib.ListN.{length, get_or, take, length-map}
+use lib.Seq.{take-suc}
 use borrow.Author.Tests.{eq-eqb, eqb-true}
 use Rattle.bcd.specs.Outcome.{among}
 use Rattle.bcd.proofs.Outcomes.{le_or_lt}
 use Rattle.bcd.proofs.Halves.{Nibbles}
 use Rattle.bcd.proofs.Below.{both}
-use Rattle.bcd.proofs.Tests.{agree, among-append}
+use Rattle.bcd.proofs.Tests.{agree}
 use Rattle.tally.specs.Members.{between, every, same, distinct}
 use Rattle.tally.specs.Steps.Codes.{code_from, code, values, codes, unlike}
 use Rattle.tally.proofs.Lists.{between_inv}

@@ -4,8 +4,8 @@ use mathlib.Core.Path.{◌≡◌, sym, ap, ◌∙◌, subst}
 use mathlib.Core.List.{List}
 use native.Mathlib.Omega.{arith}
 use lib.ListN.{length}
-use Rattle.std.specs.Prelude.{Option, None, Some}
-use Rattle.bcd.specs.Outcome.{Outcome, accepted, refused, mapped, Octets}
+use Rattle.std.specs.Prelude.{Option, Some}
+use Rattle.bcd.specs.Outcome.{accepted, refused, mapped, Octets}
 use Rattle.bcd.specs.Digits.{built_in}
 use Rattle.parameter.specs.declared.Place.{Place}
 use Rattle.parameter.specs.Walk.{valued}
@@ -15,7 +15,7 @@ use Rattle.address.specs.Parts.{interpreted}
 use Rattle.address.specs.Steps.Kept.{kept_title}
 use Rattle.address.specs.Steps.Plan.{HeldIn}
 use Rattle.address.specs.declared.parts.Parts.{Parts}
-use Rattle.address.proofs.Planning.{Sound, sound}
+use Rattle.address.proofs.Planning.{sound}
 use Rattle.address.proofs.Interpreted.{address, read_whole, interpreted-read, interpreted_refused, title_kept}
 use Rattle.tally.specs.Tally.{title_row}
 

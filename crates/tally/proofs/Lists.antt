@@ -1,16 +1,13 @@
 -- A test of every element of a list, and the sum of its numbers, element by element.
-use Prim.Native.Nat.{ℕ, zero, suc, ◌+◌, ◌-◌, ◌≤◌, ◌<◌}
-use mathlib.Core.Path.{◌≡◌, refl, sym, ap}
-use mathlib.Core.Bool.{Bool, true, false, ◌&&◌, and_assoc, and-true, and-false}
-use mathlib.Core.List.{List, [], ◌∷◌, ◌++◌}
+use Prim.Native.Nat.{ℕ, zero, suc, ◌+◌, ◌≤◌, ◌<◌}
+use mathlib.Core.Path.{◌≡◌, refl}
+use mathlib.Core.Bool.{Bool, true}
+use mathlib.Core.List.{List, [], ◌∷◌}
 use native.Mathlib.Omega.{arith}
-use native.Mathlib.Numerals.{add-one}
 use lib.Dec.{leb}
 use lib.ListN.{length, get_or, take, drop}
-use lib.Seq.{take-suc}
-use borrow.Author.Tests.{le-leb, lt-leb, leb-true}
+use borrow.Author.Tests.{le-leb, leb-true}
 use Rattle.bcd.proofs.Below.{both}
-use Rattle.bcd.proofs.Tests.{agree}
 use Rattle.std.specs.List.{sum}
 use Rattle.std.proofs.lemmas.List.Sums.{sum_by-cons}
 use Rattle.tally.specs.Members.{between, every}
@@ -24,17 +21,8 @@ between_inv low high n e =
 pub between_in : (low high n : ℕ) → low ≤ n → n ≤ high → between low high n ≡ true
 between_in low high n l h = rw (le-leb low n l, le-leb n high h)
 
-pub between_below : (low high n : ℕ) → n < low → between low high n ≡ false
-between_below low high n l = rw (lt-leb low n l)
-
-pub between_above : (low high n : ℕ) → high < n → between low high n ≡ false
-between_above low high n h = rw (lt-leb n high h) (and-false (leb low n))
-
+-- a test of every element
 module _ {A : Type 0} (test : A → Bool) where
-  pub every_append : (xs ys : List A) → every test (xs ++ ys) ≡ (every test xs && every test ys)
-  every_append [] ys = refl
-  every_append (x ∷ xs) ys = rw (every_append xs ys) (sym (and_assoc (test x) (every test xs) (every test ys)))
-
   pub every_take : (n : ℕ) (xs : List A) → every test xs ≡ true → every test (take n xs) ≡ true
   every_take zero xs e = refl
   every_take (suc n) [] e = refl
@@ -47,23 +35,10 @@ module _ {A : Type 0} (test : A → Bool) where
   every_drop (suc n) [] e = refl
   every_drop (suc n) (x ∷ xs) e = every_drop n xs (both (test x) (every test xs) e).1
 
-  pub every_part : (a n : ℕ) (xs : List A) → every test xs ≡ true → every test (take n (drop a xs)) ≡ true
-  every_part a n xs e = every_take n (drop a xs) (every_drop a xs e)
-
   pub every_at : (xs : List A) (i : ℕ) (d : A) → every test xs ≡ true → i < length xs → test (get_or xs i d) ≡ true
   every_at [] i d e h = absurd (omega arith)
   every_at (x ∷ xs) zero d e h = (both (test x) (every test xs) e).0
   every_at (x ∷ xs) (suc i) d e h = every_at xs i d (both (test x) (every test xs) e).1 (omega arith)
-
-  -- one element fails
-  pub every_not : (xs : List A) (i : ℕ) (d : A) → i < length xs → test (get_or xs i d) ≡ false → every test xs ≡ false
-  every_not [] i d h e = absurd (omega arith)
-  every_not (x ∷ xs) zero d h e = rw e
-  every_not (x ∷ xs) (suc i) d h e = rw (every_not xs i d (omega arith) e) (and-false (test x))
-
-  -- the first i, and one more
-  pub every_next : (xs : List A) (i : ℕ) (d : A) → i < length xs → every test (take (i + 1) xs) ≡ (every test (take i xs) && test (get_or xs i d))
-  every_next xs i d h = rw (add-one, take-suc xs i d h, every_append) (ap (λ b. every test (take i xs) && b) (and-true (test (get_or xs i d))))
 
 -- a sum, number by number
 pub sum_cons : (n : ℕ) (ns : List ℕ) → sum (n ∷ ns) ≡ n + sum ns

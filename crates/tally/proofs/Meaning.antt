@@ -1,5 +1,5 @@
 -- What octets mean, by their header and the places of their parameters: the type, the first Data and the first destination.
-use Prim.Native.Nat.{ℕ, ◌+◌, ◌-◌, ◌≤◌, ◌<◌}
+use Prim.Native.Nat.{ℕ, ◌+◌, ◌≤◌, ◌<◌}
 use mathlib.Core.Path.{◌≡◌, refl, sym, ap, ◌∙◌, subst}
 use mathlib.Core.Bool.{Bool, true, false}
 use mathlib.Core.Logic.{◌⊎◌, ⊎_elim, inl, inr}
@@ -9,7 +9,7 @@ use native.Mathlib.Omega.{arith}
 use borrow.Author.Tests.{eqb-true, ne_eqb}
 use lib.Dec.{eqb}
 use lib.ListN.{length, get_or, drop}
-use Rattle.bcd.specs.Outcome.{accepted, pick, mapped, each, All, most}
+use Rattle.bcd.specs.Outcome.{accepted, pick, each, All, most}
 use Rattle.bcd.specs.Digits.{built_in}
 use Rattle.bcd.proofs.Outcomes.{accepted_inj, after_inv, mapped_inv, each_inv, octets-of}
 use Rattle.parameter.specs.declared.Place.{Place}

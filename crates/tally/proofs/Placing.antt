@@ -1,6 +1,6 @@
 -- What a message adds: one of the rows, octets that one value can have, and the same for messages of the same form.
 use Prim.Native.Nat.{ℕ, suc, ◌+◌, ◌≤◌, ◌<◌}
-use mathlib.Core.Path.{◌≡◌, refl, sym, subst}
+use mathlib.Core.Path.{◌≡◌, refl, subst}
 use mathlib.Core.Bool.{Bool, true, false}
 use mathlib.Core.Logic.{⊎_elim}
 use Rattle.std.specs.Prelude.{Option, None, Some}
@@ -10,7 +10,7 @@ use lib.Dec.{eqb}
 use lib.ListN.{length, take, drop}
 use Rattle.bcd.specs.Outcome.{Outcome, accepted, refused, pick, after, mapped, each, All, Octets}
 use Rattle.bcd.specs.Digits.{built_in}
-use Rattle.bcd.proofs.Outcomes.{accepted_inj, never, after_inv, mapped_inv, each_inv, all_drop}
+use Rattle.bcd.proofs.Outcomes.{accepted_inj, after_inv, mapped_inv, each_inv, all_drop}
 use Rattle.parameter.specs.Parameter.{Param, most_value, Fits}
 use Rattle.parameter.proofs.Reading.{parameters-fit}
 use Rattle.address.specs.Address.{Title, Address}

@@ -10,6 +10,7 @@ use lib.ListN.{length, get_or, take, drop, length-append, length-map, length-dro
 use lib.Seq.{take-append_seam, drop-append_seam, length-take-le}
 use borrow.Author.Tests.{eqb-true, not-true}
 use Rattle.std.specs.List.{sum}
+use Rattle.std.proofs.lemmas.List.Folds.{list_all-append, list_all-map}
 use Rattle.bcd.specs.Outcome.{All}
 use Rattle.bcd.proofs.Outcomes.{all_at}
 use Rattle.parameter.specs.Parameter.{most_value}
@@ -19,7 +20,7 @@ use Rattle.tally.specs.Members.{between, every, same, members, distinct, valid_l
 use Rattle.tally.specs.Rows.{Rows, most_messages, within, valid_rows}
 use Rattle.tally.specs.Facts.{MemberList, OpenRows}
 use Rattle.tally.proofs.Beginning.{same_true, same_self}
-use Rattle.tally.proofs.Lists.{between_inv, between_in, every_append, sum_cons}
+use Rattle.tally.proofs.Lists.{between_inv, between_in, sum_cons}
 
 on_not_off : {t : Bool} → t ≡ true → t ≡ false → ⊥
 on_not_off {t} e f = let z : ◌≡◌ {A = ℕ} 0 1 = cc in omega arith
@@ -30,14 +31,10 @@ moved e h = ((λ t. h.0 (sym e ∙ t)), (λ x. e ∙ h.1 x))
 between_iff : (low high n : ℕ) → (between low high n ≡ true) ↔ ((low ≤ n) × (n ≤ high))
 between_iff low high n = (between_inv low high n, (λ (l, h). between_in low high n l h))
 
-every_map : {A B : Type 0} (test : B → Bool) (f : A → B) (xs : List A) → every test (map f xs) ≡ every (λ x. test (f x)) xs
-every_map test f [] = refl
-every_map test f (x ∷ xs) = ap (λ b. test (f x) && b) (every_map test f xs)
-
 every_flatten : {A : Type 0} (test : A → Bool) (xss : List (List A)) → every test (flatten xss) ≡ every (every test) xss
 unfolding flatten
 every_flatten test [] = refl
-every_flatten test (xs ∷ xss) = every_append test xs (flatten xss) ∙ ap (λ b. every test xs && b) (every_flatten test xss)
+every_flatten test (xs ∷ xss) = list_all-append test xs (flatten xss) ∙ ap (λ b. every test xs && b) (every_flatten test xss)
 
 -- Two prefixes are the same exactly where they are equal.
 same_iff : (p q : List ℕ) → (same p q ≡ true) ↔ (p ≡ q)
@@ -104,7 +101,7 @@ rules ps =
     let ns = map length ps in
     let count = length-map ps length in
     let number = between_iff 1 64 (length ns) in
-    let short = moved (every_map (between 1 15) length ps) (every_iff (λ p. between_iff 1 15 (length p)) ps) in
+    let short = moved (list_all-map (between 1 15) length ps) (every_iff (λ p. between_iff 1 15 (length p)) ps) in
     let all = eqb_iff (sum ns) (length (flatten ps)) in
     let decimal = moved (every_flatten (between 0x30 0x39) ps) (every_iff (every_iff (between_iff 0x30 0x39)) ps) in
     let unlike = moved (ap distinct (members-lent ps)) (distinct_iff ps) in

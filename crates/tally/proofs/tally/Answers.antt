@@ -10,7 +10,7 @@ use Rattle.tally.specs.Members.{members, valid_members}
 use Rattle.tally.specs.Rows.{Rows, rows, valid_rows}
 use Rattle.tally.specs.Tally.{tallied}
 use Rattle.tally.proofs.Loading.{loaded, not_loaded, members_few}
-use Rattle.tally.proofs.Calls.{usable, call_gains, has_room}
+use Rattle.tally.proofs.Calls.{call_gains, has_room}
 use Rattle.tally.proofs.Day.{list_first}
 use Rattle.tally.proofs.tally.Goals as goal
 

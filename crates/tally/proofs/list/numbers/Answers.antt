@@ -1,10 +1,6 @@
 -- `tally::list::numbers` meets its contract: the loop has stored the first i numbers.
-use mathlib.Core.Path.{◌≡◌, sym, ap, ◌∙◌}
 use native.Mathlib.Omega.{arith}
-use lib.ListN.{get_or, length-take}
-use Rattle.tally.specs.Members.{between}
-use Rattle.tally.proofs.Lists.{every_take}
-use Rattle.tally.proofs.Loading.{lengths_few, lengths_short, stored_none, stored_fits, stored_next, stored_all}
+use Rattle.tally.proofs.Loading.{lengths_few, stored_next, stored_all}
 use Rattle.tally.proofs.list.numbers.Goals as goal
 
 pub loop-i-preserved : goal.loop-i-preserved

@@ -1,5 +1,5 @@
 -- `tally::members::starts` meets its contract: the loop has stored the numbers of at most i digits.
-use mathlib.Core.Path.{refl, sym, ◌∙◌}
+use mathlib.Core.Path.{refl, ◌∙◌}
 use native.Mathlib.Omega.{arith}
 use Rattle.bcd.specs.Digits.{halves}
 use Rattle.bcd.proofs.Halves.{halves-length}

@@ -1,5 +1,5 @@
 -- `tally::members::Members::destination_row` meets its contract: the title that is kept is the address's.
-use mathlib.Core.Path.{◌≡◌, sym, ap, ◌∙◌}
+use mathlib.Core.Path.{ap, ◌∙◌}
 use native.Mathlib.Omega.{arith}
 use Rattle.bcd.specs.Outcome.{accepted}
 use Rattle.bcd.proofs.Outcomes.{octets-of}

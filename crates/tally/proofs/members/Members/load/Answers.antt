@@ -2,7 +2,7 @@
 use mathlib.Core.Path.{◌≡◌, refl, sym, ap, ◌∙◌}
 use Rattle.tally.specs.Members.{valid_members}
 use Rattle.tally.specs.Steps.Codes.{unlike}
-use Rattle.tally.proofs.Loading.{lengths_few, load_lengths, load_digits, load_distinct}
+use Rattle.tally.proofs.Loading.{load_lengths, load_digits, load_distinct}
 use Rattle.tally.proofs.members.Members.load.Goals as goal
 use Rattle.tally.proofs.members.Members.load.Goals.{then-not-valid_lengths-via-then-not-valid_lengths, then-not-valid_lengths-via-else-not-valid_lengths+then-not-decimal}
 

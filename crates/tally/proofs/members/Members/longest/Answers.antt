@@ -1,5 +1,5 @@
 -- `tally::members::Members::longest` meets its contract: the loop has found the longest of the first i members.
-use mathlib.Core.Path.{◌≡◌, sym, ap, ◌∙◌}
+use mathlib.Core.Path.{◌∙◌}
 use native.Mathlib.Omega.{arith}
 use Rattle.tally.proofs.Loading.{listed, kept}
 use Rattle.tally.proofs.Telling.{given_here}

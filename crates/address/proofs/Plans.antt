@@ -1,7 +1,7 @@
 -- An address value that was interpreted, read and written again: refused, or these octets.
 use Prim.Native.Nat.{ℕ, ◌+◌, ◌*◌, ◌/◌, ◌%◌, ◌^◌, ◌≤◌, ◌<◌}
 use mathlib.Core.Path.{◌≡◌, sym, ap, ◌∙◌}
-use Rattle.std.specs.Prelude.{Err, is_some}
+use Rattle.std.specs.Prelude.{Result, Ok, Err, is_some}
 use mathlib.Core.Logic.{◌⊎◌, inl, inr}
 use mathlib.Core.List.{List, [], ◌∷◌, ◌++◌, map}
 use native.Mathlib.Omega.{arith}
@@ -9,7 +9,7 @@ use borrow.Author.Tests.{le-leb, lt-leb}
 use lib.Dec.{eqb}
 use lib.ListN.{length, get_or}
 use Rattle.bcd.specs.Outcome.{Outcome, accepted, refused, pick, after, mapped, each, fit64}
-use Rattle.bcd.specs.Answers.{refusal_of}
+use Rattle.bcd.specs.Answers.{refusal_of, outcome_of}
 use Rattle.bcd.specs.Digits.{Alphabet, built_in}
 use Rattle.bcd.specs.declared.error.Refusal.{Refusal}
 use Rattle.bcd.proofs.Outcomes.{le_or_lt, mapped_inv, bounded-within}
@@ -117,6 +117,10 @@ plan_octets L {v} {s} {total} tag p =
 pub plan_length : {A : Alphabet} (L : Alike A) {v : List ℕ} {s : Parts} {total : ℕ} (tag : ℕ) (p : Plan A v s total) → accepted total ≡ mapped length (after (read_address built_in v) (write_address A tag))
 plan_length L {v} {s} {total} tag p = sym (ap (mapped length) (plan_octets L tag p) ∙ ap accepted (wire_length_lem v p.params ∙ p.size))
 
--- A value that is not read is refused.
-pub plan_refused : (A : Alphabet) (tag : ℕ) (v : List ℕ) (r : Refusal) → read_address built_in v ≡ refusal_of r → PlanOf A tag v (Err r)
-plan_refused A tag v r e = ap (λ (o : Outcome Address). after o (write_address A tag)) e
+-- The length, or the refusal, that measuring answers.
+pub plan_answered :
+    {A : Alphabet} (L : Alike A) (tag : ℕ) (v : List ℕ) (s : Parts) (r : Result ℕ Refusal)
+    → PlanOf A tag v s r
+    → outcome_of r ≡ mapped length (after (read_address built_in v) (write_address A tag))
+plan_answered L tag v s (Ok n) p = plan_length L tag p
+plan_answered L tag v s (Err r) e = sym (ap (mapped length) e)

@@ -53,8 +53,8 @@ fn ssn_in(value: &[u8], kept: Option<Place>) -> Option<u8>
 
 // The record of an address value that was read. The include bits are those of the address indicator, whether or not their parts
 // are there.
-fn record_of(value: &[u8], parts: Parts) -> Result<SuaAddress, Refusal>
-    requires { Read value.now parts }
+fn record_of(value: &[u8], parts: &Parts) -> Result<SuaAddress, Refusal>
+    requires { Read value.now parts.now }
     ensures { outcome_of result ≡ mapped address_record (read_address built_in value.now) }
 {
     let routing = u16::from_be_bytes([value[0], value[1]]);
@@ -89,9 +89,9 @@ fn list_other(place: Place, row: usize, rows: &mut [Place]) -> usize
 }
 
 // Stores the places of the other sub-parameters, for which there is room, by a second walk.
-fn list_others(value: &[u8], parts: Parts, rows: &mut [Place]) -> Result<usize, Refusal>
-    requires read { Read value.now parts }
-    requires other_count_in_bounds { parts.other_count ≤ length rows.old }
+fn list_others(value: &[u8], parts: &Parts, rows: &mut [Place]) -> Result<usize, Refusal>
+    requires read { Read value.now parts.now }
+    requires other_count_in_bounds { parts.now.other_count ≤ length rows.old }
     ensures { tabulated (outcome_of result) rows.new ≡ tabulate (address_places value.now) rows.old }
 {
     let mut row = 0;
@@ -112,7 +112,7 @@ impl SuaAddress {
         if rows.len() < needed {
             return Err(Refusal::TableTooSmall(needed));
         }
-        list_others(value, parts, rows)?;
-        record_of(value, parts)
+        list_others(value, &parts, rows)?;
+        record_of(value, &parts)
     }
 }

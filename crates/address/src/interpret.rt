@@ -78,22 +78,6 @@ pub(crate) fn four_length(there: bool) -> usize
     if there { 8 } else { 0 }
 }
 
-// The length of what is written, of an address value that was read. 9, if the digits are checked; then 10.
-fn measure(digits: Digits, tag: u16, value: &[u8], parts: Parts) -> Result<(Parts, usize), Refusal>
-    requires { Read value.now parts }
-    ensures { PlanOf (digits_by digits) tag value.now result }
-{
-    let length = 4
-        + title_length(digits, value, parts.title)?
-        + four_length(parts.code.is_some())
-        + four_length(parts.ssn.is_some())
-        + parts.other_length;
-    if 65531 < length {
-        return Err(Refusal::ValueTooLong { tag, length });
-    }
-    Ok((parts, length))
-}
-
 // The parts of an address value. 12, 1, 8, 5 or 6 of the walk, then each sub-parameter's 1 or 6.
 pub fn interpret(value: &[u8]) -> Result<Parts, Refusal>
     ensures { outcome_of result ≡ interpreted value.now }
@@ -116,11 +100,23 @@ pub fn interpret(value: &[u8]) -> Result<Parts, Refusal>
     Ok(parts)
 }
 
-// The parts of an address value that is to be written again, and how many octets it is then. Reading's refusals; then 9, if the
-// digits are checked, then 10.
-pub(crate) fn plan(digits: Digits, tag: u16, value: &[u8]) -> Result<(Parts, usize), Refusal>
-    ensures { PlanOf (digits_by digits) tag value.now result }
+// How many octets an address value that was read is written as. 9, if the digits are checked; then 10.
+pub(crate) fn measure(
+    digits: Digits,
+    tag: u16,
+    value: &[u8],
+    parts: &Parts,
+) -> Result<usize, Refusal>
+    requires { Read value.now parts.now }
+    ensures { PlanOf (digits_by digits) tag value.now parts.now result }
 {
-    let parts = interpret(value)?;
-    measure(digits, tag, value, parts)
+    let length = 4
+        + title_length(digits, value, parts.title)?
+        + four_length(parts.code.is_some())
+        + four_length(parts.ssn.is_some())
+        + parts.other_length;
+    if 65531 < length {
+        return Err(Refusal::ValueTooLong { tag, length });
+    }
+    Ok(length)
 }

@@ -12,7 +12,7 @@ ghost use Rattle.address.specs.Again.{with_unknown};
 ghost use Rattle.address.specs.Listing.{is_other, other_places};
 ghost use Rattle.address.specs.Steps.Plan.{HeldIn, Walked, digits_by, Plan, head_octets, others_octets};
 
-use crate::interpret::{Digits, plan};
+use crate::interpret::{Digits, interpret, measure};
 use crate::parts::Parts;
 use bcd::error::Refusal;
 use parameter::{Parameters, Place, tags};
@@ -22,8 +22,8 @@ pub fn rewritten_length(tag: u16, value: &[u8]) -> Result<usize, Refusal>
     ensures { outcome_of result
         ≡ mapped length (after (read_address built_in value.now) (write_address built_in tag)) }
 {
-    let (_, length) = plan(Digits::Checked, tag, value)?;
-    Ok(length)
+    let parts = interpret(value)?;
+    measure(Digits::Checked, tag, value, &parts)
 }
 
 // Clears the three reserved octets of the value of a parameter that was written.
@@ -134,9 +134,9 @@ fn write_other(value: &[u8], place: Place, out: &mut [u8]) -> Result<usize, Refu
 }
 
 // Writes the other sub-parameters, in order, by a second walk.
-fn write_others(value: &[u8], parts: Parts, out: &mut [u8]) -> Result<usize, Refusal>
-    requires walked { Walked value.now parts }
-    requires other_length_in_bounds { parts.other_length ≤ length out.old }
+fn write_others(value: &[u8], parts: &Parts, out: &mut [u8]) -> Result<usize, Refusal>
+    requires walked { Walked value.now parts.now }
+    requires other_length_in_bounds { parts.now.other_length ≤ length out.old }
     ensures { delivered (outcome_of result) out.new ≡ deliver (accepted (others_octets value.now)) out.old }
 {
     let mut at = 0;
@@ -156,8 +156,8 @@ fn write_head(value: &[u8], out: &mut [u8])
 }
 
 // Writes an address value that was planned.
-fn write(value: &[u8], parts: Parts, total: usize, out: &mut [u8]) -> Result<usize, Refusal>
-    requires plan { Plan with_unknown value.now parts total }
+fn write(value: &[u8], parts: &Parts, total: usize, out: &mut [u8]) -> Result<usize, Refusal>
+    requires plan { Plan with_unknown value.now parts.now total }
     requires total_in_bounds { total ≤ length out.old }
     ensures { delivered (outcome_of result) out.new
         ≡ deliver (after (read_address built_in value.now) (write_address with_unknown 0)) out.old }
@@ -177,11 +177,12 @@ fn rewrite_by(digits: Digits, tag: u16, value: &[u8], out: &mut [u8]) -> Result<
     ensures { delivered (outcome_of result) out.new
         ≡ deliver (after (read_address built_in value.now) (write_address (digits_by digits) tag)) out.old }
 {
-    let (parts, total) = plan(digits, tag, value)?;
+    let parts = interpret(value)?;
+    let total = measure(digits, tag, value, &parts)?;
     if out.len() < total {
         return Err(Refusal::OutputTooSmall(total));
     }
-    write(value, parts, total, out)
+    write(value, &parts, total, out)
 }
 
 // Reads an address value and writes it again. Reading's refusals, then 9, then 10, then 14.

@@ -59,10 +59,10 @@ abbrev pub digits_by : Digits → Alphabet
 digits_by D.Checked = built_in
 digits_by D.AsRead = with_unknown
 
--- What planning a value that is to be written answers: its parts and length, or why it is refused.
-abbrev pub PlanOf : Alphabet → (tag : ℕ) → List ℕ → Result (Parts × ℕ) Refusal → Type 0
-PlanOf A tag v (Ok p) = Plan A v p.0 p.1
-PlanOf A tag v (Err r) = after (read_address built_in v) (write_address A tag) ≡ refusal_of r
+-- What measuring a value that was read answers: how many octets it is written as, or why it is refused.
+abbrev pub PlanOf : Alphabet → (tag : ℕ) → List ℕ → Parts → Result ℕ Refusal → Type 0
+PlanOf A tag v s (Ok n) = Plan A v s n
+PlanOf A tag v s (Err r) = after (read_address built_in v) (write_address A tag) ≡ refusal_of r
 
 -- The octets of the others.
 abbrev pub places_in : Outcome (List Place) → List Place

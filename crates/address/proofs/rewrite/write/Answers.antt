@@ -93,7 +93,7 @@ pub returns-in_err-b : goal.returns-in_err-b
 returns-in_err-b c =
     let p = c.requires.plan in
     let t = titled p c.requires.total_in_bounds c.write_head.ensures c.in_ok-a.ensures in
-    wrote_never (4 + c.in_ok-a.field-0) t.begun t.place _ (codes p) (code-params with_unknown (kept_code c.args.value.now c.args.parts.code))
+    wrote_never (4 + c.in_ok-a.field-0) t.begun t.place _ (codes p) (code-params with_unknown (kept_code c.args.value.now c.args.parts.now.code))
     (omega (arith, planned-length p, c.requires.total_in_bounds, t.count)) c.in_err-b.ensures
 
 pub overflow_add-b : goal.overflow_add-b
@@ -126,7 +126,7 @@ returns-in_err-c c =
     let p = c.requires.plan in
     let t = titled p c.requires.total_in_bounds c.write_head.ensures c.in_ok-a.ensures in
     let y = coded p c.requires.total_in_bounds t c.in_ok-b.ensures in
-    wrote_never (4 + c.in_ok-a.field-0 + c.in_ok-b.field-0) y.begun y.place _ (subs p) (sub-params with_unknown (kept_sub c.args.value.now c.args.parts.ssn))
+    wrote_never (4 + c.in_ok-a.field-0 + c.in_ok-b.field-0) y.begun y.place _ (subs p) (sub-params with_unknown (kept_sub c.args.value.now c.args.parts.now.ssn))
     (omega (arith, planned-length p, c.requires.total_in_bounds, t.count, y.count)) c.in_err-c.ensures
 
 pub overflow_add-c : goal.overflow_add-c

@@ -9,7 +9,7 @@ use borrow.Author.Tests.{le-leb, lt-leb}
 use lib.Dec.{eqb}
 use lib.ListN.{length, get_or}
 use Rattle.bcd.specs.Outcome.{Outcome, accepted, refused, pick, after, mapped, each, fit64}
-use Rattle.bcd.specs.Answers.{refusal_of, outcome_of}
+use Rattle.bcd.specs.Answers.{outcome_of}
 use Rattle.bcd.specs.Digits.{Alphabet, built_in}
 use Rattle.bcd.specs.declared.error.Refusal.{Refusal}
 use Rattle.bcd.proofs.Outcomes.{le_or_lt, mapped_inv, bounded-within}

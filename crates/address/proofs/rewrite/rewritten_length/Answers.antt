@@ -1,7 +1,5 @@
 -- `address::rewrite::rewritten_length` meets its contract.
-use mathlib.Core.List.{List}
 use mathlib.Core.Path.{sym, ap, ◌∙◌}
-use Prim.Native.Nat.{ℕ}
 use lib.ListN.{length}
 use Rattle.bcd.specs.Outcome.{Outcome, after, mapped}
 use Rattle.bcd.specs.Digits.{built_in}

@@ -1,26 +1,24 @@
 -- Settling as the code goes: the header, then the walk, and each parameter's part of the form in turn.
-use Prim.Native.Nat.{ℕ, ◌+◌, ◌-◌, ◌≤◌}
+use Prim.Native.Nat.{ℕ, ◌+◌, ◌≤◌}
 use mathlib.Core.Path.{◌≡◌, refl, sym, ap, ◌∙◌, subst}
 use mathlib.Core.Bool.{Bool, true, false}
 use mathlib.Core.List.{List, [], ◌∷◌, ◌++◌, map, map-append, append-nil, append_assoc}
 use native.Mathlib.Omega.{arith}
 use lib.Dec.{leb}
-use lib.ListN.{length, take, drop, length-take, length-drop}
+use lib.ListN.{length, drop, length-take}
 use borrow.Author.Tests.{leb-true}
 use Rattle.bcd.specs.Outcome.{Outcome, accepted, refused, after, mapped, each, Octets}
 use Rattle.bcd.specs.Digits.{Alphabet, Lawful, built_in}
-use Rattle.bcd.proofs.Outcomes.{accepted_inj, never, after_inv, mapped_inv, demand_inv, bounded-within}
+use Rattle.bcd.proofs.Outcomes.{accepted_inj, after_inv, mapped_inv, demand_inv, bounded-within}
 use Rattle.parameter.specs.declared.Place.{Place}
 use Rattle.parameter.specs.Parameter.{Param, param, two, padded_length, most_value, param_octets, run_octets, run_length, encode_param, wire_length}
 use Rattle.parameter.specs.Walk.{places, valued, parameters}
 use Rattle.parameter.proofs.Structure.{places-parameters}
-use Rattle.parameter.proofs.RoundTrip.{run_length_lem, run_length-append}
+use Rattle.parameter.proofs.RoundTrip.{run_length-append}
 use Rattle.parameter.proofs.Encoding.{wire_within}
-use Rattle.parameter.proofs.Running.{part_of}
 use Rattle.address.specs.Address.{address_in, read_address, write_address, rewrite_address, sub_param, pieces, indicator}
 use Rattle.message.specs.declared.header.CommonHeader.{CommonHeader}
 use Rattle.message.specs.Message.{Message, read_header, read_message, message_octets}
-use Rattle.message.proofs.Messages.{message-length}
 use Rattle.form.specs.Form.{is_address, is_hop_counter, settled_param, settled}
 use Rattle.form.specs.Steps.Passes.{settled_run, sum_of}
 use Rattle.form.proofs.Settling.{settled-address, settled_other, settled_counter, settled_unread}

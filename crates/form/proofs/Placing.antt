@@ -1,6 +1,6 @@
 -- A parameter's part of the form, written in front of a buffer that it fits.
-use Prim.Native.Nat.{ℕ, ◌+◌, ◌-◌, ◌≤◌}
-use mathlib.Core.Path.{◌≡◌, sym, ap, ◌∙◌, subst}
+use Prim.Native.Nat.{ℕ, ◌-◌, ◌≤◌}
+use mathlib.Core.Path.{◌≡◌, sym, ap, ◌∙◌}
 use mathlib.Core.Bool.{true, false}
 use mathlib.Core.List.{List, [], ◌∷◌, ◌++◌}
 use native.Mathlib.Omega.{arith}
@@ -10,7 +10,7 @@ use Rattle.bcd.specs.Outcome.{Outcome, accepted, refused, after, mapped, deliver
 use Rattle.bcd.specs.Digits.{built_in}
 use Rattle.bcd.proofs.Outcomes.{accepted_inj, never, mapped_inv, deliver_buffer, deliver_answer}
 use Rattle.bcd.proofs.Writing.{untouched, delivered}
-use Rattle.parameter.specs.Parameter.{Param, param, padded_length, most_value, param_octets, run_octets, run_length, frame_param, encode_param}
+use Rattle.parameter.specs.Parameter.{param, padded_length, most_value, param_octets, run_octets, run_length, frame_param, encode_param}
 use Rattle.parameter.proofs.RoundTrip.{octets-length}
 use Rattle.parameter.proofs.Encoding.{encode_within, frame_known}
 use Rattle.parameter.proofs.InPlace.{framed-there}

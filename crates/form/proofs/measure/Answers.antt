@@ -5,7 +5,7 @@ use native.Mathlib.Omega.{arith}
 use lib.ListN.{get_or}
 use Rattle.bcd.proofs.Results.{exit_as}
 use Rattle.parameter.proofs.Reaching.{walk_found}
-use Rattle.form.proofs.Measuring.{Measuring, found_small, measuring_start, measuring_more, measured_end, measured_refused}
+use Rattle.form.proofs.Measuring.{found_small, measuring_start, measuring_more, measured_end, measured_refused}
 use Rattle.form.proofs.measure.Goals as goal
 
 pub loop-place-init : goal.loop-place-init

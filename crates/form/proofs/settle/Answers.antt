@@ -1,6 +1,5 @@
 -- `form::settle` meets its contract: the header and the parameters are written into an output that has room for them.
 use Prim.Native.Nat.{ℕ, ◌<◌}
-use mathlib.Core.Path.{sym}
 use native.Mathlib.Omega.{arith}
 use lib.ListN.{get_or}
 use Rattle.message.proofs.Listing.{header_room}

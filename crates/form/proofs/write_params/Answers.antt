@@ -1,6 +1,6 @@
 -- `form::write_params` meets its contract: the loop has written the parameters up to a position.
 use Prim.Native.Nat.{ℕ, ◌<◌}
-use mathlib.Core.Path.{◌≡◌, refl, ap, ◌∙◌}
+use mathlib.Core.Path.{◌≡◌, refl, ◌∙◌}
 use native.Mathlib.Omega.{arith}
 use lib.ListN.{get_or}
 use Rattle.bcd.proofs.Outcomes.{accepted_inj, never}

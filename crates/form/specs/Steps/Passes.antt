@@ -1,7 +1,7 @@
 -- What the passes of settling give, apart from the header.
 use Rattle.std.specs.Prelude.{ℕ, ◌≤◌, ◌≡◌, List, drop}
 use Rattle.bcd.specs.Outcome.{Outcome, accepted, refused, after, each}
-use Rattle.bcd.specs.Digits.{Alphabet, built_in}
+use Rattle.bcd.specs.Digits.{Alphabet}
 use Rattle.parameter.specs.Parameter.{Param, run_length}
 use Rattle.parameter.specs.Walk.{parameters}
 use Rattle.form.specs.Form.{settled_param}

@@ -82,24 +82,26 @@ unwritten :
 unwritten (refused m ws) n vs form g h e = retold (ap (λ (d : Delivered). d.answer) (e ∙ sym (deliver_refused m ws form)))
 unwritten (accepted os) n vs form g h e = absurd (never (deliver_answer os form (h os refl) e))
 
+-- the form of what the program takes is no longer than what it takes
+form_small : (xs : List ℕ) → Octets xs → (f : List ℕ) → settled_input xs ≡ accepted f → length f ≤ most_taken
+unfolding settled_input
+form_small xs o f e =
+    let d = demand_inv (leb (length xs) most_taken) _ _ (settled built_in xs) e in
+    omega (arith, leb-true (length xs) most_taken d.0, (form_room xs f o d.1).0)
+
 -- a line stored at the front of the buffer
 module _ (xs : List ℕ) {a b : Writer} (front : a.at ≡ 0) (wide : most_printed ≤ length a.out.now) where
   line_is : (l : List ℕ) → program_line xs ≡ l → length l ≤ most_printed → Writes a l b → Printed xs a.out.now b.at b.out.now
   line_is l e h w =
       let z : 0 ≡ a.at = sym front in
       let begun = emit_begun a.at l (untouched a.out.now) z (omega (arith, front)) in
+      let count : b.at ≡ length l = omega (arith, w.behind, front) in
       record {
-        count = w.behind ∙ ap (λ (n : ℕ). n + length l) front ∙ ap length (sym e);
+        count = count ∙ ap length (sym e);
         line = w.held ∙ begun.holds ∙ ap (λ (l : List ℕ). over l a.out.now) (sym e);
       }
 
   module _ (o : Octets xs) (form g : List ℕ) (room : most_taken ≤ length form) where
-    form_small : (f : List ℕ) → settled_input xs ≡ accepted f → length f ≤ most_taken
-    unfolding settled_input
-    form_small f e =
-        let d = demand_inv (leb (length xs) most_taken) _ _ (settled built_in xs) e in
-        omega (arith, leb-true (length xs) most_taken d.0, (form_room xs f o d.1).0)
-
     pub line_refused :
         (r : Refusal)
         → delivered (refusal_of r) g ≡ deliver (settled_input xs) form
@@ -107,7 +109,7 @@ module _ (xs : List ℕ) {a b : Writer} (front : a.at ≡ 0) (wide : most_printe
         → Printed xs a.out.now b.at b.out.now
     unfolding program_line
     line_refused r s w =
-        let e = unwritten (settled_input xs) _ _ form g (λ f h. omega (arith, form_small f h)) s in
+        let e = unwritten (settled_input xs) _ _ form g (λ f h. omega (arith, form_small xs o f h)) s in
         line_is (refused_line (numbered r).0) (ap line_of e) (refusal_fits r) w
 
     pub line_formed :
@@ -118,7 +120,7 @@ module _ (xs : List ℕ) {a b : Writer} (front : a.at ≡ 0) (wide : most_printe
     unfolding program_line
     line_formed n s w =
         let f = written (settled_input xs) n form g s in
-        let small = form_small f.octets f.whole in
+        let small = form_small xs o f.octets f.whole in
         line_is (form_text f.octets) (ap line_of f.whole) (form_fits f.octets small) (rw f.front at w)
 
 -- the line lies in its buffer

@@ -20,9 +20,9 @@ slice_bounds-form-end-in-Ok c =
 pub returns-in-Ok : goal.returns-in-Ok
 returns-in-Ok c =
     let o = octets-of c.args.input.now (λ i. (c.type_inv.input i).fits) in
-    line_formed c.args.input.now refl (cc) o _ c.settle.new.form (cc) c.in-Ok.n c.in-Ok.ensures c.form.ensures
+    line_formed c.args.input.now refl (omega (arith, c)) o _ c.settle.new.form (omega (arith, c)) c.in-Ok.n c.in-Ok.ensures c.form.ensures
 
 pub returns-in-Err : goal.returns-in-Err
 returns-in-Err c =
     let o = octets-of c.args.input.now (λ i. (c.type_inv.input i).fits) in
-    line_refused c.args.input.now refl (cc) o _ c.settle.new.form (cc) c.in-Err.refusal c.in-Err.ensures c.refused.ensures
+    line_refused c.args.input.now refl (omega (arith, c)) o _ c.settle.new.form (omega (arith, c)) c.in-Err.refusal c.in-Err.ensures c.refused.ensures

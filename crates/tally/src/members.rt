@@ -48,7 +48,8 @@ fn starts(octets: &[u8], n: usize) -> [u64; 16]
 impl<'a> Members<'a> {
     // The members of a list that keeps the rules.
     pub fn load(digits: &'a [u8], lengths: &'a [u8]) -> Option<Members<'a>>
-        ensures { result ≡ pick (valid_members digits.now lengths.now) (Some (members digits.now lengths.now)) None }
+        ensures { result
+            ≡ pick (valid_members digits.now lengths.now) (Some (members digits.now lengths.now)) None }
     {
         if !valid_lengths(lengths, digits.len()) || !decimal(digits) {
             return None;

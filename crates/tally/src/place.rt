@@ -54,8 +54,8 @@ impl Members<'_> {
         }
     }
 
-    // What a message that has a form adds. The refusals of its form.
-    fn gain(&self, input: &[u8]) -> Result<Gain, Refusal>
+    // What a message that has a form adds. The refusals of its form; nothing refuses after its length.
+    fn meant(&self, input: &[u8]) -> Result<Gain, Refusal>
         ensures { outcome_of result
             ≡ after (settled built_in input.now) (λ form. mapped (meant self.now) (meaning built_in input.now)) }
     {
@@ -80,6 +80,6 @@ impl Members<'_> {
             row: self.count() + 1,
             octets: 0,
         };
-        self.gain(input).unwrap_or(refused)
+        self.meant(input).unwrap_or(refused)
     }
 }

@@ -24,7 +24,3 @@ loop-c-preserved c = let p = c.args.prefix.now in
     let digit = between_inv 0x30 0x39 (get_or p c.loop-c.c-index 0) (every_at (between 0x30 0x39) p c.loop-c.c-index 0 c.requires.prefix_value c.loop-c-test.true) in
     coded_next (values p) c.loop-c.c-index c.loop-c.number c.from.result (rw (length-map p (λ c. c - 0x30)) c.loop-c-test.true) (omega (arith, digit, c.from.ensures))
     (c.from.ensures ∙ sym (get_or-map (λ c. c - 0x30) p c.loop-c.c-index 0)) c.loop-c.invariant
-
-pub returns : goal.returns
-returns c = let p = c.args.prefix.now in
-    c.loop-c.invariant.0 ∙ ap code (take_all c.loop-c.c-index (values p) (rw (length-map p (λ c. c - 0x30)) c.loop-c-test.false))

@@ -20,6 +20,3 @@ loop-i-preserved c =
     let small = half_small c.args.octets.now (λ j. omega (arith, c.type_inv.octets j)) c.loop-i.i (omega arith) in
     let same = c.from.ensures ∙ c.half_in.ensures in
     started_next c.loop-i.invariant c.from.result (omega arith) (omega (arith, halves-length c.args.octets.now)) (omega (arith, small, same)) same
-
-pub returns : goal.returns
-returns c = λ k h. (c.loop-i.invariant.all k (omega arith)).0

@@ -17,23 +17,11 @@ use Rattle.bcd.proofs.Writing.{Begun, store}
 use Rattle.flat.specs.declared.writer.Writer.{Writer}
 use Rattle.flat.specs.Steps.Emitting.{stored, emit, Writes}
 
-pub stored-length : (d : List ℕ) (at v : ℕ) → length (stored d at v) ≡ length d
-stored-length d at v = go (ltb at (length d))
-  where
-    go : (t : Bool) → length (pick t (set d at v) d) ≡ length d
-    go true = length-set d at v
-    go false = refl
-
 pub stored_there : (d : List ℕ) (at v : ℕ) → at < length d → set d at v ≡ stored d at v
 stored_there d at v h = rw (lt-ltb at (length d) h) refl
 
 pub stored_past : (d : List ℕ) (at v : ℕ) → length d ≤ at → d ≡ stored d at v
 stored_past d at v h = rw (le-ltb at (length d) h) refl
-
-pub emit-length : (d : List ℕ) (at : ℕ) (os : List ℕ) → length (emit d at os) ≡ length d
-unfolding emit
-emit-length d at [] = refl
-emit-length d at (v ∷ os) = emit-length (stored d at v) (at + 1) os ∙ stored-length d at v
 
 pub emit-append : (d : List ℕ) (at : ℕ) (us vs : List ℕ) → emit d at (us ++ vs) ≡ emit (emit d at us) (at + length us) vs
 unfolding emit
@@ -68,9 +56,6 @@ writes_more {a} {b} {c} {us} {vs} x y =
           ∙ ap (λ (n : ℕ). emit (emit a.out.now a.at us) n vs) x.behind
           ∙ sym (emit-append a.out.now a.at us vs);
     }
-
-pub writes_same : {a b : Writer} {os : List ℕ} → Writes a os b → length b.out.now ≡ length a.out.now
-writes_same {a} {b} {os} x = ap length x.held ∙ emit-length a.out.now a.at os
 
 -- the next octet of a list behind those before it
 pub writes_next :

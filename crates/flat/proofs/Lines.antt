@@ -52,9 +52,6 @@ pub decimal-short : (n : ℕ) → length (decimal n) ≤ 1 + n / 10
 decimal-short n = shorter n n (omega arith)
 
 -- the space before an octet
-pub space-first : space 0 ≡ []
-space-first = refl
-
 pub space_short : (i : ℕ) → length (space i) ≤ 1
 space_short i = told (ltb 0 i && eqb (i % 4) 0)
   where
@@ -110,7 +107,3 @@ words_more xs i h =
     ap words t ∙ words_from_more 0 (take i xs) (get_or xs i 0)
     ∙ ap (λ (k : ℕ). words (take i xs) ++ (space k ++ hex (get_or xs i 0))) n
     ∙ sym (append_assoc (words (take i xs)) (space i) (hex (get_or xs i 0)))
-
--- the octets of a front take no more than all
-pub words-front : (xs : List ℕ) (i : ℕ) → i ≤ length xs → length (words (take i xs)) ≤ length (words xs)
-words-front xs i h = omega (arith, words-length xs, words-length (take i xs), length-take-le i xs h)

@@ -1,17 +1,14 @@
 -- Octets stored from a position on, as many of them as the slice has places for.
 use Prim.Native.Nat.{ℕ, suc, ◌+◌, ◌/◌, ◌%◌, ◌^◌, ◌≤◌, ◌<◌}
 use mathlib.Core.Path.{◌≡◌, refl, sym, ap, ◌∙◌, subst}
-use mathlib.Core.Bool.{Bool, true, false}
 use mathlib.Core.List.{List, [], ◌∷◌, ◌++◌, append_assoc, append-nil}
 use native.Mathlib.Omega.{arith}
-use lib.Dec.{ltb}
 use native.Mathlib.Numerals.{add-one}
-use lib.ListN.{length, get_or, set, take, length-append, length-set}
+use lib.ListN.{length, get_or, set, take, length-append}
 use lib.Seq.{take-suc}
 use borrow.Author.Tests.{lt-ltb, le-ltb}
 use Rattle.std.specs.Int.{to_be_bytes}
 use mir.Syntax.{w16, w32}
-use Rattle.bcd.specs.Outcome.{pick}
 use Rattle.parameter.specs.Parameter.{two, four}
 use Rattle.bcd.proofs.Writing.{Begun, store}
 use Rattle.flat.specs.declared.writer.Writer.{Writer}

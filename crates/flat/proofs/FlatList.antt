@@ -7,7 +7,7 @@ use native.Mathlib.Omega.{arith}
 use lib.Dec.{leb}
 use lib.ListN.{length}
 use borrow.Author.Tests.{le-leb, leb-true, leb-false}
-use Rattle.bcd.specs.Outcome.{Outcome, accepted, refused, pick, after, mapped, demand}
+use Rattle.bcd.specs.Outcome.{Outcome, accepted, refused, pick, after, mapped}
 use Rattle.bcd.proofs.Outcomes.{accepted_inj, never, demand_inv}
 use Rattle.parameter.specs.declared.Place.{Place}
 use Rattle.parameter.specs.Walk.{Walked, ended, found, onward, valued}

@@ -1,5 +1,5 @@
 -- The second pass over a flat list: its parameters are written, as far as they have been walked.
-use Prim.Native.Nat.{ℕ, ◌+◌, ◌-◌, ◌≤◌, ◌<◌}
+use Prim.Native.Nat.{ℕ, ◌+◌, ◌-◌, ◌≤◌}
 use mathlib.Core.Path.{◌≡◌, refl, sym, ap, ◌∙◌, subst}
 use mathlib.Core.List.{List, [], ◌∷◌, ◌++◌, map, map-append, append-nil}
 use native.Mathlib.Omega.{arith}
@@ -8,7 +8,7 @@ use lib.ListN.{length, drop, length-append, length-take, length-drop}
 use borrow.Author.Tests.{leb-true}
 use borrow.Rule.Slice.PartMut.{mid_of, put_mid}
 use Rattle.bcd.specs.Outcome.{Outcome, accepted, refused, after, mapped, each, delivered, deliver}
-use Rattle.bcd.proofs.Outcomes.{accepted_inj, never, mapped_inv, demand_inv, each_inv, each_split, each_append, deliver_buffer, deliver_answer}
+use Rattle.bcd.proofs.Outcomes.{accepted_inj, never, demand_inv, each_inv, each_split, each_append, deliver_buffer, deliver_answer}
 use Rattle.bcd.proofs.Writing.{Begun, untouched, extend}
 use Rattle.parameter.specs.declared.Place.{Place}
 use Rattle.parameter.specs.Parameter.{Param, padded_length, param_octets, most_value, encode_param}

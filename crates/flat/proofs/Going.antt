@@ -1,6 +1,6 @@
 -- How far the account of the parameters has come.
 use Prim.Native.Nat.{ℕ, ◌+◌, ◌*◌, ◌≤◌}
-use mathlib.Core.Path.{◌≡◌, refl, sym, ap, ◌∙◌, subst}
+use mathlib.Core.Path.{◌≡◌, refl, sym, ap, ◌∙◌}
 use mathlib.Core.Bool.{true, false}
 use mathlib.Core.List.{List, [], ◌∷◌, ◌++◌}
 use native.Mathlib.Omega.{arith}
@@ -17,7 +17,7 @@ use Rattle.parameter.proofs.Reaching.{Passed, passed_none, passed_next, passed_e
 use Rattle.form.proofs.Passes.{each_last}
 use Rattle.flat.specs.Account.{param_account}
 use Rattle.flat.specs.declared.writer.Writer.{Writer}
-use Rattle.flat.specs.Steps.Emitting.{Writes, Tried, accounts, Accounted}
+use Rattle.flat.specs.Steps.Emitting.{Tried, Accounted}
 use Rattle.flat.proofs.Emission.{writes_none, writes_more}
 
 -- Where nothing was refused, a parameter has taken 13 * most octets at most.

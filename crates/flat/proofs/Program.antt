@@ -1,6 +1,6 @@
 -- The program's line fits its buffer, whatever the input.
 use Prim.Native.Nat.{ℕ, ◌+◌, ◌/◌, ◌≤◌, ◌<◌}
-use mathlib.Core.Path.{◌≡◌, refl, sym, ap, ◌∙◌, subst}
+use mathlib.Core.Path.{◌≡◌, refl, sym, ap, ◌∙◌}
 use mathlib.Core.Logic.{⊎_elim}
 use mathlib.Core.List.{List, [], ◌∷◌, ◌++◌}
 use native.Mathlib.Omega.{arith}
@@ -9,7 +9,6 @@ use lib.Seq.{take_at}
 use borrow.Author.Tests.{leb-true}
 use lib.Dec.{leb}
 use Rattle.bcd.specs.declared.error.Refusal.{Refusal}
-use Rattle.bcd.specs.declared.error.Refusal.TheVariants as R
 use Rattle.bcd.specs.Outcome.{Outcome, accepted, refused, Octets, Delivered, delivered, deliver}
 use Rattle.bcd.specs.Answers.{numbered, refusal_of}
 use Rattle.bcd.specs.Digits.{built_in}

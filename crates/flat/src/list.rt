@@ -28,8 +28,12 @@ fn step(list: &[u8], at: usize) -> Result<Option<Place>, Refusal>
         return Err(Refusal::OutsideSlice);
     }
     let tag = u16::from_be_bytes([list[at], list[at + 1]]);
-    let length =
-        u32::from_be_bytes([list[at + 2], list[at + 3], list[at + 4], list[at + 5]]) as usize;
+    let length = u32::from_be_bytes([
+        list[at + 2],
+        list[at + 3],
+        list[at + 4],
+        list[at + 5],
+    ]) as usize;
     if left - 6 < length {
         return Err(Refusal::OutsideSlice);
     }

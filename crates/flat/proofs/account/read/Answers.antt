@@ -1,5 +1,5 @@
 -- `flat::account::read` meets its contract: the account is measured, then written.
-use mathlib.Core.Path.{◌≡◌, refl, sym, ap, ◌∙◌}
+use mathlib.Core.Path.{refl, sym, ◌∙◌}
 use native.Mathlib.Omega.{arith}
 use borrow.Author.Rules.{rules}
 use Rattle.bcd.specs.Digits.{built_in}

@@ -1,6 +1,5 @@
 -- `flat::list::encode_typed` meets its contract: the header, then the parameters in the rest of the output.
 use Prim.Native.Nat.{◌-◌}
-use mathlib.Core.Path.{◌∙◌}
 use native.Mathlib.Omega.{arith}
 use lib.ListN.{length, drop, length-take, length-drop}
 use Rattle.bcd.specs.Outcome.{after, each}

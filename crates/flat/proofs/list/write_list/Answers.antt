@@ -1,6 +1,5 @@
 -- `flat::list::write_list` meets its contract.
-use Prim.Native.Nat.{ℕ, ◌-◌}
-use mathlib.Core.Path.{◌≡◌, sym, ap, ◌∙◌}
+use mathlib.Core.Path.{◌≡◌}
 use native.Mathlib.Omega.{arith}
 use Rattle.bcd.proofs.Outcomes.{accepted_inj, never}
 use Rattle.flat.proofs.FlatWriting.{known, written_start, written_never, written_turn, written-size, written_more, written_all}

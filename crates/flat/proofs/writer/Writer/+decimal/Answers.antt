@@ -1,9 +1,7 @@
 -- `flat::writer::Writer::decimal` meets its contract.
-use Prim.Native.Nat.{◌+◌, ◌%◌}
 use mathlib.Core.Path.{ap}
 use native.Mathlib.Omega.{arith}
 use lib.ListN.{length}
-use Rattle.flat.specs.Line.{decimal}
 use Rattle.flat.proofs.Lines.{decimal_one, decimal_longer}
 use Rattle.flat.proofs.Printing.{decimal_stored, digit_stored}
 use Rattle.flat.proofs.writer.Writer.+decimal.Goals.{then-n-gt9, else-n-gt9}

@@ -1,5 +1,5 @@
 -- `flat::writer::Writer::others` meets its contract: there is nothing to store, or nothing but the number, or the walk stores all.
-use mathlib.Core.Path.{◌≡◌, ◌∙◌}
+use mathlib.Core.Path.{◌∙◌}
 use native.Mathlib.Omega.{arith}
 use Rattle.address.proofs.Others.{count_small}
 use Rattle.flat.specs.Steps.Emitting.{others_fields}

@@ -1,7 +1,6 @@
 -- `flat::writer::Writer::params` meets its contract.
-use mathlib.Core.Path.{◌≡◌, refl, sym, ap, ◌∙◌}
+use mathlib.Core.Path.{ap, ◌∙◌}
 use native.Mathlib.Omega.{arith}
-use Rattle.bcd.specs.Answers.{outcome_of}
 use Rattle.bcd.proofs.Results.{exit}
 use Rattle.parameter.specs.declared.Parameters.{Parameters}
 use Rattle.parameter.proofs.Reaching.{walk_found}

@@ -12,6 +12,6 @@ loop-octet-preserved c =
     let os = c.args.octets.now in
     let i = c.loop-octet.octet-index in
     elim c.if-self.branch [
-    | then-self w ↦ rw w.self-is (writes_next os i c.loop-octet-test.true c.loop-octet.invariant refl refl (stored_there _ _ _ w.if-self.true))
-    | else-self w ↦ rw w.self-is (writes_next os i c.loop-octet-test.true c.loop-octet.invariant refl refl (stored_past _ _ _ w.if-self.false))
+      | then-self w ↦ rw w.self-is (writes_next os i c.loop-octet-test.true c.loop-octet.invariant refl refl (stored_there _ _ _ w.if-self.true))
+      | else-self w ↦ rw w.self-is (writes_next os i c.loop-octet-test.true c.loop-octet.invariant refl refl (stored_past _ _ _ w.if-self.false))
     ]

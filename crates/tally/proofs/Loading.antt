@@ -8,7 +8,6 @@ use lib.Dec.{eqb}
 use lib.ListN.{length, get_or, set, take, drop, length-drop, length-set, drop_of_length-le}
 use lib.Seq.{length-take-le}
 use borrow.Author.Tests.{eqb-true}
-use Rattle.std.specs.Prelude.{Option, None, Some, Result, Ok, Err, ok_or}
 use Rattle.std.specs.List.{sum}
 use Rattle.std.proofs.lemmas.List.{take_more_set, drop_more}
 use Rattle.bcd.specs.Outcome.{pick}
@@ -124,24 +123,3 @@ module _ {ds ns held : List ℕ} (n : Numbered ds ns held) where
     numbers = rw members-length n.same;
     decimal = members-every (between 0x30 0x39) ds ns listed.1;
   }
-
-pub members_few : (ds ns : List ℕ) → valid_members ds ns ≡ true → length ns ≤ 64
-unfolding valid_members
-members_few ds ns e =
-    lengths_few (length ds) ns (both (valid_lengths (length ds) ns) (every (between 0x30 0x39) ds && distinct (members ds ns)) e).0
-
--- What loading a list gives, or a refusal in its place.
-module _ {X E : Type 0} (b : Bool) (x : X) {o : Option X} (r : E) (e : o ≡ pick b (Some x) None) where
-  pub loaded : {m : X} → ◌≡◌ {A = Result X E} (Ok m) (ok_or o r) → (b ≡ true) × (m ≡ x)
-  loaded {m} f = on b refl (f ∙ ap (λ o. ok_or o r) e)
-    where
-      on : (t : Bool) → b ≡ t → ◌≡◌ {A = Result X E} (Ok m) (ok_or (pick t (Some x) None) r) → (b ≡ true) × (m ≡ x)
-      on true h f = (h, cc)
-      on false h f = let z : ◌≡◌ {A = ℕ} 0 1 = cc in absurd (omega arith)
-
-  pub not_loaded : {s : E} → ◌≡◌ {A = Result X E} (Err s) (ok_or o r) → (b ≡ false) × (s ≡ r)
-  not_loaded {s} f = on b refl (f ∙ ap (λ o. ok_or o r) e)
-    where
-      on : (t : Bool) → b ≡ t → ◌≡◌ {A = Result X E} (Err s) (ok_or (pick t (Some x) None) r) → (b ≡ false) × (s ≡ r)
-      on true h f = let z : ◌≡◌ {A = ℕ} 0 1 = cc in absurd (omega arith)
-      on false h f = (h, cc)

@@ -26,11 +26,14 @@ pub fn tally(
         ≡ tally digits.now lengths.now input.now
         (rows messages.old octets.old) }
 {
-    let members = Members::load(digits, lengths).ok_or(Refusal::InvalidTally)?;
-    if !rows::valid(lengths.len(), messages, octets) {
+    if !list::valid_lengths(lengths, digits.len()) || !list::decimal(digits) {
         return Err(Refusal::InvalidTally);
     }
-    let gain = members.place(input);
+    let numbers = list::numbers(digits, lengths);
+    if !list::distinct(&numbers[..lengths.len()]) || !rows::valid(lengths.len(), messages, octets) {
+        return Err(Refusal::InvalidTally);
+    }
+    let gain = Members::new(digits, lengths, &numbers).place(input);
     rows::gain(gain, messages, octets);
     Ok(gain.row)
 }

@@ -1,21 +1,20 @@
 // The members of a list, and the longest that a title's digits begin with.
-ghost use Rattle.std.specs.Prelude.{◌≡◌, ◌≤◌, ◌*◌, ℕ, None, Some, length, take, get_or};
-ghost use Rattle.bcd.specs.Outcome.{pick};
+ghost use Rattle.std.specs.Prelude.{◌≡◌, ◌≤◌, ◌*◌, ℕ, length, take, get_or};
 ghost use Rattle.bcd.specs.Digits.{built_in, halves, digits_in};
 ghost use Rattle.address.specs.Address.{title_at};
-ghost use Rattle.tally.specs.Members.{members, valid_members, longest};
-ghost use Rattle.tally.specs.Steps.Codes.{code};
+ghost use Rattle.tally.specs.Members.{members, longest};
+ghost use Rattle.tally.specs.Steps.Codes.{code, Numbered};
 
-use crate::list::{decimal, distinct, numbers, valid_lengths};
 use bcd::half_in;
 use std::marker::Model;
 
-// A member list that keeps the rules, as it is lent, with the number of each prefix. Contracts see the prefixes.
+// A member list that keeps the rules, as it is lent, with the number of each prefix. Contracts see the prefixes. The numbers are
+// lent too, since a struct with the array in it would be copied at each move.
 #[derive(Drop)]
 pub(crate) struct Members<'a> {
     digits: &'a [u8],
     lengths: &'a [u8],
-    numbers: [u64; 64],
+    numbers: &'a [u64; 64],
 }
 
 impl<'a> Model for Members<'a> {
@@ -28,7 +27,7 @@ impl<'a> Model for Members<'a> {
 
     ghost view = { λ m. members m.digits.now m.lengths.now };
 
-    ghost invariant = { λ m. Numbered m.digits.now m.lengths.now m.numbers };
+    ghost invariant = { λ m. Numbered m.digits.now m.lengths.now m.numbers.now };
 }
 
 // The numbers of the first digits: of none, of one, and so on to n; then zeros.
@@ -46,23 +45,16 @@ fn starts(octets: &[u8], n: usize) -> [u64; 16]
 }
 
 impl<'a> Members<'a> {
-    // The members of a list that keeps the rules.
-    pub fn load(digits: &'a [u8], lengths: &'a [u8]) -> Option<Members<'a>>
-        ensures { result
-            ≡ pick (valid_members digits.now lengths.now) (Some (members digits.now lengths.now)) None }
+    // A list that keeps the rules, with its numbers.
+    pub fn new(digits: &'a [u8], lengths: &'a [u8], numbers: &'a [u64; 64]) -> Members<'a>
+        requires { Numbered digits.now lengths.now numbers.now }
+        ensures { result ≡ members digits.now lengths.now }
     {
-        if !valid_lengths(lengths, digits.len()) || !decimal(digits) {
-            return None;
-        }
-        let numbers = numbers(digits, lengths);
-        if !distinct(&numbers[..lengths.len()]) {
-            return None;
-        }
-        Some(Members {
+        Members {
             digits,
             lengths,
             numbers,
-        })
+        }
     }
 
     // How many there are.

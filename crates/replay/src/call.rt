@@ -159,11 +159,24 @@ fn decimal_digit(character: u8) -> u64
     }
 }
 
-// The number of decimal digits, which is below 2^64.
+// A number, below 2^64, with one decimal digit more.
+fn with_digit(n: u64, digit: u64) -> u64
+    requires { digit < 10 }
+{
+    if n < 1844674407370955161 {
+        n * 10 + digit
+    } else {
+        18446744073709551610u64.wrapping_add(digit)
+    }
+}
+
+// The number of decimal digits.
 fn decimal(digits: &[u8]) -> u64 {
-    digits
-        .iter()
-        .fold(0u64, |n, &c| n.wrapping_mul(10).wrapping_add(decimal_digit(c)))
+    let mut n = 0;
+    for &c in digits {
+        n = with_digit(n, decimal_digit(c));
+    }
+    n
 }
 
 // The value of a hexadecimal digit.
@@ -194,12 +207,11 @@ fn times(text: &[u8]) -> (&[u8], u64) {
 
 // Stores an item so many times from a place on, as often as there is room, and answers the next place.
 fn put<T: Copy>(item: T, count: u64, at: usize, room: &mut [T]) -> usize {
-    let Some(places) = room.get_mut(at..) else {
-        return at;
-    };
-    let n = places.len().min(usize::try_from(count).unwrap_or(usize::MAX));
-    places[..n].fill(item);
-    at + n
+    let from = at.min(room.len());
+    let left = room.len() - from;
+    let n = left.min(usize::try_from(count).unwrap_or(left));
+    room[from..from + n].fill(item);
+    from + n
 }
 
 // Stores the octets of a piece, pairs of digits, or one pair and how many times; answers the next place.

@@ -35,7 +35,6 @@ fn lent(call: &Call, out: &mut [u8], codes: &mut [u32], line: &mut Line) -> fmt:
 // The answer of a call, by what it is given or lent.
 fn answer(call: &Call, out: &mut [u8], codes: &mut [u32], line: &mut Line) -> fmt::Result {
     match call.name {
-        b"" => Ok(()),
         b"gt_digits_length" | b"parameter_decode" | b"wire_length" | b"as_u32" | b"step"
         | b"routing_indicator" | b"address_indicator" | b"rewritten_length" | b"class"
         | b"class_type" | b"header_decode" | b"settled_length" => numbers::answer(call, line),
@@ -53,7 +52,7 @@ fn print(call: &Call, out: &mut [u8], codes: &mut [u32], room: &mut [u8]) {
     io::write_all(STDOUT, line.shown());
 }
 
-// Reads standard input, and answers each of its lines. The buffers are arrays of `main`, so that no proof looks at their elements.
+// Reads standard input, and answers each of its lines, an empty one by an empty one. The buffers are arrays of `main`, so that no proof looks at their elements.
 fn run(
     text: &mut [u8; 1000000],
     numbers: &mut [u64; 20000],
@@ -64,8 +63,12 @@ fn run(
 ) {
     let n = io::read_full(STDIN, text);
     for given in text[..n.min(1000000)].split_inclusive(|&c| c == b'\n') {
-        let call = call::read(without(given, b'\n'), numbers, octets);
-        print(&call, out, codes, line);
+        let text = without(given, b'\n');
+        if text.is_empty() {
+            io::write_all(STDOUT, b"\n");
+        } else {
+            print(&call::read(text, numbers, octets), out, codes, line);
+        }
     }
 }
 

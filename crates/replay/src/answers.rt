@@ -62,7 +62,11 @@ impl<T: Answer> Answer for Option<T> {
 
 impl Answer for bool {
     fn show(&self, line: &mut Line) -> fmt::Result {
-        line.word(if *self { b"yes".as_slice() } else { b"no".as_slice() })
+        line.word(if *self {
+            b"yes".as_slice()
+        } else {
+            b"no".as_slice()
+        })
     }
 }
 

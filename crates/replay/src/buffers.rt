@@ -39,7 +39,12 @@ fn encode_alone(address: &SuaAddress, out: &mut [u8]) -> Result<usize, Refusal> 
 }
 
 // The calls that write digits, titles, addresses, parameters or a form.
-pub(crate) fn answer(call: &Call, out: &mut [u8], codes: &mut [u32], line: &mut Line) -> fmt::Result {
+pub(crate) fn answer(
+    call: &Call,
+    out: &mut [u8],
+    codes: &mut [u32],
+    line: &mut Line,
+) -> fmt::Result {
     let a = call.string(0);
     match call.name {
         b"encode_gt_digits" => written(call, 0, out, line, |room| encode_gt_digits(a, room)),
@@ -84,7 +89,13 @@ fn of_records(call: &Call, out: &mut [u8], line: &mut Line) -> fmt::Result {
             let table = call.table(2);
             let records = Records::new(a, table.rows());
             let count = call.get(0);
-            written(call, 1, out, line, |room| records.encode_parameters(count, room))
+            written(
+                call,
+                1,
+                out,
+                line,
+                |room| records.encode_parameters(count, room),
+            )
         }
         b"address_encode" => {
             let table = call.table(16);
@@ -143,24 +154,60 @@ fn constructed(call: &Call, out: &mut [u8], codes: &mut [u32], line: &mut Line) 
     match call.name {
         b"asp_up" => {
             let info = call.given_string(2, 0);
-            written(call, 3, out, line, |room| SuaMessage::asp_up(number, info, room))
+            written(
+                call,
+                3,
+                out,
+                line,
+                |room| SuaMessage::asp_up(number, info, room),
+            )
         }
         b"asp_up_ack" => written(call, 1, out, line, |room| SuaMessage::asp_up_ack(a, room)),
         b"asp_down" => written(call, 1, out, line, |room| SuaMessage::asp_down(a, room)),
         b"asp_down_ack" => written(call, 1, out, line, |room| SuaMessage::asp_down_ack(a, room)),
         b"heartbeat" => written(call, 1, out, line, |room| SuaMessage::heartbeat(a, room)),
-        b"heartbeat_ack" => written(call, 1, out, line, |room| SuaMessage::heartbeat_ack(a, room)),
+        b"heartbeat_ack" => written(
+            call,
+            1,
+            out,
+            line,
+            |room| SuaMessage::heartbeat_ack(a, room),
+        ),
         b"asp_active" => {
-            written(call, 4, out, line, |room| SuaMessage::asp_active(number, second, room))
+            written(
+                call,
+                4,
+                out,
+                line,
+                |room| SuaMessage::asp_active(number, second, room),
+            )
         }
         b"asp_active_ack" => {
-            written(call, 4, out, line, |room| SuaMessage::asp_active_ack(number, second, room))
+            written(
+                call,
+                4,
+                out,
+                line,
+                |room| SuaMessage::asp_active_ack(number, second, room),
+            )
         }
         b"asp_inactive" => {
-            written(call, 2, out, line, |room| SuaMessage::asp_inactive(number, room))
+            written(
+                call,
+                2,
+                out,
+                line,
+                |room| SuaMessage::asp_inactive(number, room),
+            )
         }
         b"asp_inactive_ack" => {
-            written(call, 2, out, line, |room| SuaMessage::asp_inactive_ack(number, room))
+            written(
+                call,
+                2,
+                out,
+                line,
+                |room| SuaMessage::asp_inactive_ack(number, room),
+            )
         }
         _ => with_code(call, out, codes, line),
     }
@@ -173,12 +220,24 @@ fn with_code(call: &Call, out: &mut [u8], codes: &mut [u32], line: &mut Line) ->
         b"error" => {
             let context = call.given(1);
             let info = call.given_string(3, 0);
-            written(call, 4, out, line, |room| SuaMessage::error(number, context, info, room))
+            written(
+                call,
+                4,
+                out,
+                line,
+                |room| SuaMessage::error(number, context, info, room),
+            )
         }
         b"notify" => {
             let asp_id = call.given(1);
             let context = call.given(3);
-            written(call, 5, out, line, |room| SuaMessage::notify(number, asp_id, context, room))
+            written(
+                call,
+                5,
+                out,
+                line,
+                |room| SuaMessage::notify(number, asp_id, context, room),
+            )
         }
         b"duna" | b"dava" | b"daud" | b"pack_affected_point_codes" => {
             of_codes(call, out, codes, line)
@@ -192,13 +251,41 @@ fn with_code(call: &Call, out: &mut [u8], codes: &mut [u32], line: &mut Line) ->
 // The calls that write point codes.
 fn of_codes(call: &Call, out: &mut [u8], codes: &mut [u32], line: &mut Line) -> fmt::Result {
     let context = call.given(0);
-    let at = if call.is(b"pack_affected_point_codes") { 1 } else { 3 };
+    let at = if call.is(b"pack_affected_point_codes") {
+        1
+    } else {
+        3
+    };
     let pcs = call.codes(at, codes);
     match call.name {
-        b"duna" => written(call, 2, out, line, |room| SuaMessage::duna(context, pcs, room)),
-        b"dava" => written(call, 2, out, line, |room| SuaMessage::dava(context, pcs, room)),
-        b"daud" => written(call, 2, out, line, |room| SuaMessage::daud(context, pcs, room)),
-        _ => written(call, 0, out, line, |room| pack_affected_point_codes(pcs, room)),
+        b"duna" => written(
+            call,
+            2,
+            out,
+            line,
+            |room| SuaMessage::duna(context, pcs, room),
+        ),
+        b"dava" => written(
+            call,
+            2,
+            out,
+            line,
+            |room| SuaMessage::dava(context, pcs, room),
+        ),
+        b"daud" => written(
+            call,
+            2,
+            out,
+            line,
+            |room| SuaMessage::daud(context, pcs, room),
+        ),
+        _ => written(
+            call,
+            0,
+            out,
+            line,
+            |room| pack_affected_point_codes(pcs, room),
+        ),
     }
 }
 

@@ -97,7 +97,11 @@ impl<'a> Call<'a> {
 
     // The octet string at a place, if the flag at another is set.
     pub(crate) fn given_string(&self, i: usize, k: usize) -> Option<&'a [u8]> {
-        if self.get(i) { Some(self.string(k)) } else { None }
+        if self.get(i) {
+            Some(self.string(k))
+        } else {
+            None
+        }
     }
 
     // The numbers of the list at a place, which has its count first.
@@ -131,7 +135,11 @@ impl<'a> Call<'a> {
         let starts = self.list(starts_at);
         let lengths = self.list(lengths_at);
         let count = tags.len().min(starts.len()).min(lengths.len());
-        let mut rows = [Place { tag: 0, start: 0, length: 0 }; 64];
+        let mut rows = [Place {
+            tag: 0,
+            start: 0,
+            length: 0,
+        }; 64];
         let columns = tags.iter().zip(starts).zip(lengths);
         for (row, ((&tag, &start), &length)) in rows.iter_mut().zip(columns) {
             *row = Place {

@@ -115,7 +115,11 @@ impl<'a> Line<'a> {
     }
 
     // Stores a column of a table, or codes, as a word that begins with a letter.
-    pub(crate) fn column<I: Iterator<Item = u64> + Drop>(&mut self, letter: u8, items: I) -> fmt::Result {
+    pub(crate) fn column<I: Iterator<Item = u64> + Drop>(
+        &mut self,
+        letter: u8,
+        items: I,
+    ) -> fmt::Result {
         self.word(&[letter])?;
         let mut first = true;
         for n in items {

@@ -25,9 +25,17 @@ fn lent(call: &Call, out: &mut [u8], codes: &mut [u32], line: &mut Line) -> fmt:
         b"unpack_affected_point_codes" | b"affected_point_codes" | b"contexts_in" => {
             tables::codes(call, codes, line)
         }
-        b"parameters_length" | b"find_parameter" | b"routing_context" | b"sequence_control"
-        | b"protocol_class" | b"ss7_hop_count" | b"sccp_cause" | b"source_address"
-        | b"destination_address" | b"data" | b"screen" => tables::answer(call, line),
+        b"parameters_length"
+        | b"find_parameter"
+        | b"routing_context"
+        | b"sequence_control"
+        | b"protocol_class"
+        | b"ss7_hop_count"
+        | b"sccp_cause"
+        | b"source_address"
+        | b"destination_address"
+        | b"data"
+        | b"screen" => tables::answer(call, line),
         _ => buffers::answer(call, out, codes, line),
     }
 }
@@ -35,9 +43,18 @@ fn lent(call: &Call, out: &mut [u8], codes: &mut [u32], line: &mut Line) -> fmt:
 // The answer of a call, by what it is given or lent.
 fn answer(call: &Call, out: &mut [u8], codes: &mut [u32], line: &mut Line) -> fmt::Result {
     match call.name {
-        b"gt_digits_length" | b"parameter_decode" | b"wire_length" | b"as_u32" | b"step"
-        | b"routing_indicator" | b"address_indicator" | b"rewritten_length" | b"class"
-        | b"class_type" | b"header_decode" | b"settled_length" => numbers::answer(call, line),
+        b"gt_digits_length"
+        | b"parameter_decode"
+        | b"wire_length"
+        | b"as_u32"
+        | b"step"
+        | b"routing_indicator"
+        | b"address_indicator"
+        | b"rewritten_length"
+        | b"class"
+        | b"class_type"
+        | b"header_decode"
+        | b"settled_length" => numbers::answer(call, line),
         b"decode_gt_digits" => records::decode_gt_digits(call.string(0), call.get(0), line),
         b"title_decode" => records::title_decode(call.string(0), line),
         _ => lent(call, out, codes, line),

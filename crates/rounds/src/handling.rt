@@ -38,7 +38,11 @@ impl<'a> Lent<'a> {
 
 // All seven, each by its accessor.
 fn seven(sum: Sum, m: SuaMessage, lent: Records) -> Sum {
-    let mut others = [Place { tag: 0, start: 0, length: 0 }; 2];
+    let mut others = [Place {
+        tag: 0,
+        start: 0,
+        length: 0,
+    }; 2];
     let first = sum
         .add(&m.routing_context(lent))
         .add(&m.protocol_class(lent))
@@ -51,7 +55,11 @@ fn seven(sum: Sum, m: SuaMessage, lent: Records) -> Sum {
 
 // All seven by the one walk.
 fn screen(sum: Sum, m: SuaMessage, lent: Records) -> Sum {
-    let mut sources = [Place { tag: 0, start: 0, length: 0 }; 2];
+    let mut sources = [Place {
+        tag: 0,
+        start: 0,
+        length: 0,
+    }; 2];
     let mut destinations = sources;
     sum.add(&m.screen(lent, &mut sources, &mut destinations))
 }

@@ -110,7 +110,12 @@ impl Summand for SuaAddress {
             .add(&self.other_count);
         match &self.global_title {
             Some(title) => numbers.add(title),
-            None => numbers.add(&0u64).add(&0u64).add(&0u64).add(&0u64).add(&0u64),
+            None => numbers
+                .add(&0u64)
+                .add(&0u64)
+                .add(&0u64)
+                .add(&0u64)
+                .add(&0u64),
         }
     }
 }

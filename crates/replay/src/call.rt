@@ -218,7 +218,9 @@ fn put<T: Copy>(item: T, count: u64, at: usize, room: &mut [T]) -> usize {
     let from = at.min(room.len());
     let left = room.len() - from;
     let n = left.min(usize::try_from(count).unwrap_or(left));
-    room[from..from + n].fill(item);
+    for place in &mut room[from..from + n] {
+        *place = item;
+    }
     from + n
 }
 

@@ -114,19 +114,21 @@ impl<'a> Line<'a> {
         Ok(())
     }
 
-    // Stores a column of a table, or codes, as a word that begins with a letter.
-    pub(crate) fn column<I: Iterator<Item = u64> + Drop>(
+    // Stores numbers of items, as a word that begins with a letter.
+    pub(crate) fn column<T, F: Fn(&T) -> u64>(
         &mut self,
         letter: u8,
-        items: I,
-    ) -> fmt::Result {
+        items: &[T],
+        number: F,
+    ) -> fmt::Result
+        requires { F.IsAlwaysCallable number }
+    {
         self.word(&[letter])?;
-        let mut first = true;
-        for n in items {
-            if !first {
+        for (i, item) in items.iter().enumerate() {
+            if 0 < i {
                 self.octet(b',');
             }
-            first = false;
+            let n = number(item);
             write!(self, "{n}")?;
         }
         Ok(())

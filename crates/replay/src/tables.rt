@@ -48,12 +48,21 @@ impl Lent {
 
     // Stores the three columns.
     fn show(&self, line: &mut Line) -> fmt::Result {
-        let tags = self.rows.iter().take(self.tags);
-        line.column(b't', tags.map(|row| u64::from(row.tag)))?;
-        let starts = self.rows.iter().take(self.starts);
-        line.column(b's', starts.map(|row| row.start as u64))?;
-        let lengths = self.rows.iter().take(self.lengths);
-        line.column(b'l', lengths.map(|row| row.length as u64))
+        line.column(
+            b't',
+            &self.rows[..self.tags.min(64)],
+            |row| u64::from(row.tag),
+        )?;
+        line.column(
+            b's',
+            &self.rows[..self.starts.min(64)],
+            |row| row.start as u64,
+        )?;
+        line.column(
+            b'l',
+            &self.rows[..self.lengths.min(64)],
+            |row| row.length as u64,
+        )
     }
 }
 
@@ -106,7 +115,7 @@ pub(crate) fn codes(call: &Call, codes: &mut [u32], line: &mut Line) -> fmt::Res
         room = lent_codes(call, 0, codes);
         unpack_affected_point_codes(a, room).show(line)?;
     }
-    line.column(b'c', room.iter().map(|&code| u64::from(code)))
+    line.column(b'c', room, |&code| u64::from(code))
 }
 
 // An address that an accessor reads, with the table lent for its others.

@@ -1,5 +1,5 @@
 -- The account of a message: refused, or written.
-use Prim.Native.Nat.{ℕ, ◌+◌, ◌≤◌}
+use Prim.Native.Nat.{ℕ, ◌^◌, ◌≤◌}
 use mathlib.Core.Path.{◌≡◌, refl, sym, ap, ◌∙◌}
 use mathlib.Core.List.{List, [], ◌∷◌, ◌++◌}
 use native.Mathlib.Omega.{arith}
@@ -7,7 +7,6 @@ use lib.ListN.{length}
 use Rattle.bcd.specs.Outcome.{Outcome, accepted, refused, after, mapped, each, delivered, deliver}
 use Rattle.bcd.specs.Digits.{built_in}
 use Rattle.bcd.proofs.Outcomes.{accepted_inj, never}
-use Rattle.bcd.proofs.Writing.{untouched}
 use Rattle.parameter.specs.declared.Place.{Place}
 use Rattle.parameter.specs.Parameter.{four}
 use Rattle.parameter.specs.Walk.{places}
@@ -17,8 +16,8 @@ use Rattle.message.specs.Types.{class_of, type_of}
 use Rattle.message.specs.Message.{read_header}
 use Rattle.flat.specs.Account.{param_account, account}
 use Rattle.flat.specs.declared.writer.Writer.{Writer}
-use Rattle.flat.specs.Steps.Emitting.{emit, Writes, accounts, Accounted}
-use Rattle.flat.proofs.Emission.{emit_begun, writes_more}
+use Rattle.flat.specs.Steps.Emitting.{Writes, accounts, Accounted}
+use Rattle.flat.proofs.Emission.{writes_begun, writes_more}
 
 pub account_unread : (xs : List ℕ) (n : ℕ) (vs : List ℕ) → refused n vs ≡ read_header xs → refused n vs ≡ account built_in xs
 unfolding account
@@ -65,26 +64,25 @@ module _ (xs : List ℕ) (h : CommonHeader) (e : accepted h ≡ read_header xs) 
         ∙ ap (mapped (headed h (length ps))) inner
         ∙ ap (λ (k : ℕ). accepted (headed h k m.tried.0)) (sym c)
 
-    pub account_counted : a.at ≡ 6 → accepted b.at ≡ mapped length (account built_in xs)
-    account_counted z =
-        let l : b.at ≡ length (headed h n m.tried.0) = omega (arith, m.tried.2.behind, z) in
-        ap accepted l ∙ sym (ap (mapped length) account_known)
+    module _ (small : length m.tried.0 ≤ 2 ^ 44) (z : a.at ≡ 6) where
+      pub account_counted : accepted b.at ≡ mapped length (account built_in xs)
+      account_counted =
+          let l : b.at ≡ length (headed h n m.tried.0) = omega (arith, small, m.tried.2.behind, z) in
+          ap accepted l ∙ sym (ap (mapped length) account_known)
 
-    -- the head, and the parameters behind it
-    pub account_written :
-        {c d f g : Writer} {k : ℕ} {last : List ℕ} (w : Accounted xs f (accepted k) g)
-        → c.at ≡ 0
-        → 6 + length m.tried.0 ≤ length c.out.now
-        → Writes c (class_of h.message_type ∷ (type_of h.message_type ∷ [])) d
-        → Writes d (four n) f
-        → last ≡ g.out.now
-        → delivered (accepted g.at) last ≡ deliver (account built_in xs) c.out.now
-    account_written {c} {d} {f} {g} {k} {last} w z room x y l =
-        let same : m.tried.0 ≡ w.tried.0 = accepted_inj (sym m.tried.1 ∙ w.tried.1) in
-        let all : Writes c (headed h n w.tried.0) g = writes_more (writes_more x y) w.tried.2 in
-        let z' : 0 ≡ c.at = sym z in
-        let begun = emit_begun c.at (headed h n w.tried.0) (untouched c.out.now) z' (omega (arith, z, ap length same)) in
-        let whole : last ≡ emit c.out.now c.at (headed h n w.tried.0) = l ∙ all.held in
-        ap (delivered (accepted g.at)) whole
-        ∙ Rattle.bcd.proofs.Writing.delivered g.at begun (omega (arith, all.behind, z))
-        ∙ ap (λ o. deliver o c.out.now) (ap (λ os. accepted (headed h n os)) (sym same) ∙ sym account_known)
+      -- the head, and the parameters behind it
+      pub account_written :
+          {c d f g : Writer} {k : ℕ} {last : List ℕ} (w : Accounted xs f (accepted k) g)
+          → c.at ≡ 0
+          → b.at ≤ length c.out.now
+          → Writes c (class_of h.message_type ∷ (type_of h.message_type ∷ [])) d
+          → Writes d (four n) f
+          → last ≡ g.out.now
+          → delivered (accepted g.at) last ≡ deliver (account built_in xs) c.out.now
+      account_written {c} {d} {f} {g} {k} {last} w y room u v l =
+          let same : m.tried.0 ≡ w.tried.0 = accepted_inj (sym m.tried.1 ∙ w.tried.1) in
+          let all : Writes c (headed h n w.tried.0) g = writes_more (writes_more u v) w.tried.2 in
+          let begun = writes_begun all y (omega (arith, small, m.tried.2.behind, z, ap length same, room)) in
+          ap (delivered (accepted g.at)) l
+          ∙ Rattle.bcd.proofs.Writing.delivered g.at begun (omega (arith, small, all.behind, y, ap length same))
+          ∙ ap (λ o. deliver o c.out.now) (ap (λ os. accepted (headed h n os)) (sym same) ∙ sym account_known)

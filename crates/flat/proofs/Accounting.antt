@@ -1,18 +1,19 @@
 -- The account of an address and of a parameter.
-use Prim.Native.Nat.{ℕ, ◌+◌, ◌*◌, ◌/◌, ◌%◌, ◌≤◌}
+use Prim.Native.Nat.{ℕ, ◌+◌, ◌*◌, ◌/◌, ◌%◌, ◌^◌, ◌≤◌}
 use mathlib.Core.Path.{◌≡◌, refl, sym, ap, ◌∙◌, subst}
-use mathlib.Core.Bool.{true, false}
+use mathlib.Core.Bool.{Bool, true, false}
 use mathlib.Core.List.{List, [], ◌∷◌, ◌++◌, map, append_assoc, append-nil}
 use native.Mathlib.Omega.{arith}
-use lib.ListN.{length, get_or, drop, length-append, length-map}
+use lib.ListN.{length, get_or, drop, length-append, length-map, length-take, length-drop}
 use Rattle.std.specs.Prelude.{Option, None, Some}
-use Rattle.bcd.specs.Outcome.{Outcome, accepted, refused, Octets, most}
+use Rattle.bcd.specs.Outcome.{Outcome, accepted, refused, pick, each, Octets, most}
 use Rattle.bcd.specs.Digits.{built_in, digits_in}
-use Rattle.bcd.proofs.Outcomes.{bounded-within, octets_at}
+use Rattle.bcd.proofs.Outcomes.{accepted_inj, after_inv, mapped_inv, each_inv, bounded-within, octets_at}
 use Rattle.bcd.proofs.Reading.{digits-length}
 use Rattle.parameter.specs.declared.Place.{Place}
 use Rattle.parameter.specs.Parameter.{two, four, two_at}
 use Rattle.parameter.specs.Walk.{valued, places}
+use Rattle.parameter.proofs.Walking.{places_few}
 use Rattle.address.specs.Address.{address_in, read_address, address_with}
 use Rattle.address.specs.Steps.Kept.{kept_title, kept_code, kept_sub}
 use Rattle.address.specs.Listing.{other_places}
@@ -21,16 +22,16 @@ use Rattle.address.specs.declared.parts.Parts.{Parts}
 use Rattle.address.proofs.Keeping.{piece_at}
 use Rattle.address.proofs.Interpreting.{title_holds, code_holds, sub_holds}
 use Rattle.address.proofs.Plans.{indicator_bits}
-use Rattle.address.proofs.Interpreted.{read_whole}
+use Rattle.address.proofs.Interpreted.{read_whole, accepted_read}
 use Rattle.address.proofs.Others.{count_known, walk_few}
 use Rattle.form.specs.Form.{is_address}
 use Rattle.message.specs.Accessors.{moved}
-use Rattle.flat.specs.Account.{place_octets, marked, title_fields, address_fields, address_account, param_account}
+use Rattle.flat.specs.Account.{place_octets, places_octets, marked, title_fields, address_fields, address_account, param_account}
 use Rattle.flat.specs.declared.writer.Writer.{Writer}
-use Rattle.flat.specs.Steps.Emitting.{Writes, Tried, listed, others_fields, parts_fields}
+use Rattle.flat.specs.Steps.Emitting.{Writes, Tried, listed, others_fields, parts_fields, accounts}
 use Rattle.flat.proofs.Emission.{writes_more}
 use Rattle.flat.proofs.Describing.{value_octets}
-use Rattle.flat.proofs.OtherPlaces.{listed-length, octets-length}
+use Rattle.flat.proofs.OtherPlaces.{listed-length}
 
 -- what the parts of an address take
 pub title_small : (v : List ℕ) (k : Option Place) → Octets v → length (marked title_fields (kept_title built_in v k)) ≤ 262
@@ -85,22 +86,18 @@ parts_small base {v} {s} r =
     let walked : listed base (places_in (places v 4)) ≡ listed base r.known.places = ap (λ o. listed base (places_in o)) r.known.walked in
     omega (arith, title_small v s.title r.known.octets, code_small v s.code, sub_small v s.ssn, length-append T (C ++ (S ++ O)), length-append C (S ++ O), length-append S O, ap length walked, listed-length base r.known.places, walk_few r.known)
 
--- the fields of the others: ten octets for each, and their number alone where there are none
-pub others_length : (base : ℕ) {v : List ℕ} {s : Parts} (r : Read v s) → 4 + 10 * s.other_count ≡ length (others_fields base v s)
-others_length base {v} {s} r =
-    let ps = r.known.places in
-    let walked : listed base (places_in (places v 4)) ≡ listed base ps = ap (λ o. listed base (places_in o)) r.known.walked in
-    omega (arith, ap length walked, octets-length (map (moved base) (other_places ps)), length-map (other_places ps) (moved base), count_known r.known)
-
-empty : (l : List ℕ) → length l ≡ 0 → l ≡ []
-empty [] e = refl
-empty (x ∷ l) e = absurd (omega arith)
-
+-- there are no others
 pub others_none : (base : ℕ) {v : List ℕ} {s : Parts} (r : Read v s) {a b : Writer} → s.other_count ≡ 0 → Writes a (four s.other_count) b → Writes a (others_fields base v s) b
+unfolding places_octets
 others_none base {v} {s} r {a} {b} e x =
-    let L = listed base (places_in (places v 4)) in
-    let none : L ≡ [] = empty L (omega (arith, others_length base r)) in
+    let none : listed base (places_in (places v 4)) ≡ [] =
+    ap (λ o. listed base (places_in o)) r.known.walked
+    ∙ ap (λ ps. places_octets (map (moved base) ps)) (empty (other_places r.known.places) (omega (arith, e, count_known r.known))) in
     subst (λ (os : List ℕ). Writes a os b) (sym (ap (λ (l : List ℕ). four s.other_count ++ l) none ∙ append-nil (four s.other_count))) x
+  where
+    empty : (ps : List Place) → length ps ≡ 0 → ps ≡ []
+    empty [] e = refl
+    empty (p ∷ ps) e = absurd (omega (arith, e))
 
 -- the account of an address value that was read, and of one that was not
 pub account_read : (base : ℕ) {v : List ℕ} {s : Parts} (r : Read v s) → address_account built_in base v ≡ accepted (parts_fields base v s)
@@ -138,3 +135,34 @@ module _ (xs : List ℕ) (p : Place) where
       → Tried a (param_account built_in xs p) o c
   param_address c t x (accepted u) y = (place_octets p ++ y.0, known t _ y.1, writes_more x y.2)
   param_address c t x (refused n vs) y = (known t _ y.0, y.1 ∙ x.lent)
+
+-- how long an account is at most
+address_small : (base : ℕ) (v os : List ℕ) → Octets v → length v ≤ most → address_account built_in base v ≡ accepted os → length os ≤ 12 * most
+unfolding address_account read_address
+address_small base v os o h e =
+    let (a, f, g) = after_inv (address_in built_in v) _ e in
+    let (s, r) = accepted_read o (bounded-within v (address_in built_in v) h ∙ f) in
+    omega (arith, parts_small base r, ap length (accepted_inj (sym e ∙ account_read base r)))
+
+module _ (xs : List ℕ) (octets : Octets xs) (within : length xs ≤ most) where
+  param_small : (p : Place) (os : List ℕ) → param_account built_in xs p ≡ accepted os → length os ≤ 13 * most
+  unfolding param_account
+  param_small p os e =
+      let (us, f, g) = mapped_inv (λ os. place_octets p ++ os) (pick (is_address p.tag) (address_account built_in p.start (valued xs p).value) (accepted [])) e in
+      let value : length (valued xs p).value ≤ most = rw (length-take p.length (drop p.start xs), length-drop p.start xs) (omega (arith, within)) in
+      omega (arith, go (is_address p.tag) us value f, ap length g)
+    where
+      go : (t : Bool) (us : List ℕ) → length (valued xs p).value ≤ most → pick t (address_account built_in p.start (valued xs p).value) (accepted []) ≡ accepted us → length us ≤ 12 * most
+      go true us h f = address_small p.start (valued xs p).value us (value_octets xs p octets) h f
+      go false us h f = omega (arith, ap length (accepted_inj f))
+
+  each_small : (ps : List Place) (os : List ℕ) → each (param_account built_in xs) ps ≡ accepted os → length os ≤ 13 * most * length ps
+  each_small [] os e = omega (arith, ap length (accepted_inj e))
+  each_small (p ∷ ps) os e =
+      let (us, vs, f, g, h) = each_inv (param_account built_in xs) p ps os e in
+      omega (arith, param_small p us f, each_small ps vs g, length-append us vs, ap length h)
+
+  pub accounts_small : (os : List ℕ) → accounts xs ≡ accepted os → length os ≤ 2 ^ 44
+  accounts_small os e =
+      let (ps, w, f) = after_inv (places xs 8) _ e in
+      omega (arith, each_small ps os f, places_few xs 8 ps w, within)

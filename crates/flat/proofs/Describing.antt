@@ -1,5 +1,5 @@
 -- The fields of an address in the account, part by part.
-use Prim.Native.Nat.{ℕ, ◌+◌, ◌-◌, ◌*◌, ◌/◌, ◌%◌, ◌<◌, min}
+use Prim.Native.Nat.{ℕ, ◌+◌, ◌-◌, ◌*◌, ◌/◌, ◌%◌, ◌^◌, ◌<◌, min}
 use mathlib.Core.Path.{◌≡◌, sym, ap, ◌∙◌, subst}
 use mathlib.Core.List.{List, [], ◌∷◌, ◌++◌, map, map-append}
 use native.Mathlib.Omega.{arith}
@@ -26,7 +26,7 @@ pub value_octets : (v : List ℕ) (p : Place) → Octets v → Octets (valued v 
 value_octets v p o = all_take (λ (x : ℕ). x < 256) p.length (drop p.start v) (all_drop (λ (x : ℕ). x < 256) p.start v o)
 
 -- the first i digits
-pub digits_none : (xs : List ℕ) (a : Writer) → Writes a (digits_in built_in xs 0) a
+pub digits_none : (xs : List ℕ) (a : Writer) → a.at < 2 ^ 64 → Writes a (digits_in built_in xs 0) a
 unfolding digits_in
 digits_none xs a = writes_none a
 
@@ -50,9 +50,6 @@ digits_next {a} {b} {c} xs i octet h o x y =
 module _ (v : List ℕ) (n : ℕ) (count : n ≡ min (get_or v 4 0) (2 * (length v - 8))) where
   number : n ≡ length (digits_in built_in (drop 8 v) (get_or v 4 0))
   number = omega (arith, digits-length built_in (drop 8 v) (get_or v 4 0), length-drop 8 v)
-
-  pub title_length : 6 + n ≡ length (1 ∷ title_fields (title_at built_in v))
-  title_length = omega (arith, number)
 
   pub title_stored :
       {a b : Writer}

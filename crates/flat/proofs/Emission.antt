@@ -1,84 +1,65 @@
--- Octets stored from a position on, as many of them as the slice has places for.
-use Prim.Native.Nat.{ℕ, suc, ◌+◌, ◌/◌, ◌%◌, ◌^◌, ◌≤◌, ◌<◌}
-use mathlib.Core.Path.{◌≡◌, refl, sym, ap, ◌∙◌, subst}
+-- Octets stored one after the other, where the slice has places for them.
+use Prim.Native.Nat.{ℕ, ◌+◌, ◌/◌, ◌%◌, ◌^◌, ◌≤◌, ◌<◌}
+use mathlib.Core.Path.{◌≡◌, refl, sym, ap, ◌∙◌}
 use mathlib.Core.List.{List, [], ◌∷◌, ◌++◌, append_assoc, append-nil}
 use native.Mathlib.Omega.{arith}
-use native.Mathlib.Numerals.{add-one}
-use lib.ListN.{length, get_or, set, take, length-append}
-use lib.Seq.{take-suc}
-use borrow.Author.Tests.{lt-ltb, le-ltb}
+use lib.ListN.{length, take, drop, length-append, take-append-drop}
+use lib.Seq.{drop-append-add, drop-drop, length-take-le}
 use Rattle.std.specs.Int.{to_be_bytes}
 use mir.Syntax.{w16, w32}
+use Rattle.bcd.specs.Outcome.{fit64}
+use Rattle.bcd.proofs.Writing.{Begun, begin, in_front}
 use Rattle.parameter.specs.Parameter.{two, four}
-use Rattle.bcd.proofs.Writing.{Begun, store}
+use Rattle.parameter.specs.Table.{over}
 use Rattle.flat.specs.declared.writer.Writer.{Writer}
-use Rattle.flat.specs.Steps.Emitting.{stored, emit, Writes}
+use Rattle.flat.specs.Steps.Emitting.{Writes}
 
-pub stored_there : (d : List ℕ) (at v : ℕ) → at < length d → set d at v ≡ stored d at v
-stored_there d at v h = rw (lt-ltb at (length d) h) refl
+-- nothing stored
+pub writes_none : (a : Writer) → a.at < 2 ^ 64 → Writes a [] a
+writes_none a h = record { lent = refl; same = refl; behind = omega (arith, h); held = λ f. unchanged a.out.now a.at (omega (arith, f)) }
+  where
+    unchanged : (d : List ℕ) (at : ℕ) → at ≤ length d → d ≡ over (take at d ++ []) d
+    unchanged d at h = rw (append-nil (take at d), length-take-le at d h) (sym (take-append-drop at d))
 
-pub stored_past : (d : List ℕ) (at v : ℕ) → length d ≤ at → d ≡ stored d at v
-stored_past d at v h = rw (le-ltb at (length d) h) refl
+-- what was stored, where there are places for all
+module _ {a b : Writer} {os : List ℕ} (x : Writes a os b) (room : a.at + length os ≤ fit64 (length a.out.now)) where
+  front : length (take a.at a.out.now ++ os) ≡ a.at + length os
+  front = omega (arith, room, length-append (take a.at a.out.now) os, length-take-le a.at a.out.now (omega (arith, room)))
 
-pub emit-append : (d : List ℕ) (at : ℕ) (us vs : List ℕ) → emit d at (us ++ vs) ≡ emit (emit d at us) (at + length us) vs
-unfolding emit
-emit-append d at [] vs = let e : at + 0 ≡ at = omega arith in ap (λ (n : ℕ). emit d n vs) (sym e)
-emit-append d at (u ∷ us) vs =
-    let e : at + 1 + length us ≡ at + suc (length us) = omega arith in
-    emit-append (stored d at u) (at + 1) us vs ∙ ap (λ (n : ℕ). emit (emit (stored d at u) (at + 1) us) n vs) e
-
--- octets that the slice has no place for
-emit_past : (d : List ℕ) (at : ℕ) (os : List ℕ) → length d ≤ at → emit d at os ≡ d
-unfolding emit
-emit_past d at [] h = refl
-emit_past d at (v ∷ os) h = rw (le-ltb at (length d) h) (emit_past d (at + 1) os (omega arith))
-
-pub writes_beyond : (a : Writer) (os : List ℕ) {n : ℕ} → length a.out.now ≤ a.at → n ≡ length os → Writes a os (record { out = a.out; at = a.at + n })
-writes_beyond a os h e = record { lent = refl; behind = ap (λ (k : ℕ). a.at + k) e; held = sym (emit_past a.out.now a.at os h) }
-
--- nothing
-pub writes_none : (a : Writer) → Writes a [] a
-unfolding emit
-writes_none a = record { lent = refl; behind = omega arith; held = refl }
+  begun : Begun a.out.now (take a.at a.out.now ++ os) b.out.now
+  begun = begin a.out.now (take a.at a.out.now ++ os) b.out.now (omega (arith, front, room)) (x.held room)
 
 -- octets behind octets
+joined : (d e f p q : List ℕ) → e ≡ over p d → f ≡ over (p ++ q) e → f ≡ over (p ++ q) d
+joined d e f p q x y =
+    let l = length-append p q in
+    let rest : drop (length (p ++ q)) e ≡ drop (length (p ++ q)) d =
+    rw (l, x) (drop-append-add p (drop (length p) d) (length q) ∙ drop-drop (length q) (length p) d) in
+    y ∙ ap (λ (r : List ℕ). (p ++ q) ++ r) rest
+
 pub writes_more : {a b c : Writer} {us vs : List ℕ} → Writes a us b → Writes b vs c → Writes a (us ++ vs) c
 writes_more {a} {b} {c} {us} {vs} x y =
+    let l = length-append us vs in
     record {
       lent = y.lent ∙ x.lent;
-      behind = y.behind ∙ ap (λ (n : ℕ). n + length vs) x.behind ∙ rw (length-append us vs) (omega arith);
-      held =
-          y.held
-          ∙ ap (λ (l : List ℕ). emit l b.at vs) x.held
-          ∙ ap (λ (n : ℕ). emit (emit a.out.now a.at us) n vs) x.behind
-          ∙ sym (emit-append a.out.now a.at us vs);
+      same = y.same ∙ x.same;
+      behind = omega (arith, l, x.behind, y.behind);
+      held = λ h.
+          let room : a.at + length us ≤ fit64 (length a.out.now) = omega (arith, h, l) in
+          let p = take a.at a.out.now ++ us in
+          let at : a.at + length us ≡ b.at = omega (arith, x.behind, room) in
+          let first : take b.at b.out.now ≡ p = in_front b.at (begun x room) (front x room ∙ at) in
+          let second : c.out.now ≡ over (p ++ vs) b.out.now = rw first at (y.held (omega (arith, h, l, at, x.same))) in
+          joined a.out.now b.out.now c.out.now p vs (x.held room) second ∙ ap (λ (q : List ℕ). over q a.out.now) (append_assoc (take a.at a.out.now) us vs);
     }
 
--- the next octet of a list behind those before it
-pub writes_next :
-    {a b c : Writer} (os : List ℕ) (i : ℕ)
-    → i < length os
-    → Writes a (take i os) b
-    → c.out.ghost_name ≡ b.out.ghost_name
-    → c.at ≡ b.at + 1
-    → c.out.now ≡ stored b.out.now b.at (get_or os i 0)
-    → Writes a (take (i + 1) os) c
-unfolding emit
-writes_next {a} {b} {c} os i h x l e s =
-    let t : take (i + 1) os ≡ take i os ++ (get_or os i 0 ∷ []) = rw add-one (take-suc os i 0 h) in
-    subst (λ (l : List ℕ). Writes a l c) (sym t) (writes_more x (record { lent = l; behind = e; held = s }))
+-- octets stored from the front of the slice
+pub writes_begun : {a b : Writer} {os : List ℕ} → Writes a os b → a.at ≡ 0 → length os ≤ fit64 (length a.out.now) → Begun a.out.now os b.out.now
+writes_begun {a} {b} {os} x z h =
+    let none : take a.at a.out.now ≡ [] = rw z refl in
+    rw none at (begun x (omega (arith, z, h)))
 
--- where there is room for all, they stand behind what was written before
-pub emit_begun : {out p d : List ℕ} (at : ℕ) (os : List ℕ) → Begun out p d → length p ≡ at → at + length os ≤ length out → Begun out (p ++ os) (emit d at os)
-unfolding emit
-emit_begun {out} {p} {d} at [] b n h = subst (λ (q : List ℕ). Begun out q d) (sym (append-nil p)) b
-emit_begun {out} {p} {d} at (v ∷ os) b n h =
-    let here : stored d at v ≡ set d at v = rw (lt-ltb at (length d) (omega (arith, b.same))) in
-    let one = subst (λ (e : List ℕ). Begun out (p ++ (v ∷ [])) e) (sym here) (store at v b n (omega arith)) in
-    subst (λ (q : List ℕ). Begun out q (emit (stored d at v) (at + 1) os)) (append_assoc p (v ∷ []) os)
-    (emit_begun {p = p ++ (v ∷ [])} (at + 1) os one (rw length-append (omega arith)) (omega arith))
-
--- the octets of a number of 32 bits, the high one first
+-- the octets of a number of 32 bits and of 16, the high one first
 pub four_bytes : (n : ℕ) → n < 2 ^ 32 → to_be_bytes w32 n ≡ four n
 four_bytes n h =
     let a : n / 16777216 % 256 ≡ n / 65536 / 256 = omega (arith, h) in

@@ -1,5 +1,5 @@
 -- How far the account of the parameters has come.
-use Prim.Native.Nat.{ℕ, ◌+◌, ◌*◌, ◌≤◌}
+use Prim.Native.Nat.{ℕ, ◌+◌, ◌^◌, ◌≤◌, ◌<◌}
 use mathlib.Core.Path.{◌≡◌, refl, sym, ap, ◌∙◌}
 use mathlib.Core.Bool.{true, false}
 use mathlib.Core.List.{List, [], ◌∷◌, ◌++◌}
@@ -20,18 +20,12 @@ use Rattle.flat.specs.declared.writer.Writer.{Writer}
 use Rattle.flat.specs.Steps.Emitting.{Tried, Accounted}
 use Rattle.flat.proofs.Emission.{writes_none, writes_more}
 
--- Where nothing was refused, a parameter has taken 13 * most octets at most.
-abbrev pub Small : Writer → (n : ℕ) → Outcome (Unit {0}) → Writer → Type 0
-Small a n (accepted u) b = b.at ≤ a.at + 13 * most * n
-Small a n (refused m vs) b = Unit {0}
-
 pub record Going (xs : List ℕ) (a : Writer) (n : ℕ) (left : List ℕ) (at : ℕ) (o : Outcome (Unit {0})) (b : Writer) : Type 0 where
   pub passed : Passed xs 8 n left at
   pub tried : Tried a (each (param_account built_in xs) passed.reached.done) o b
-  pub small : Small a n o b
 
-pub going_start : (xs : List ℕ) (a : Writer) {left : List ℕ} {at : ℕ} → left ≡ xs → at ≡ 8 → Going xs a 0 left at (accepted (tt {0})) a
-going_start xs a e f = record { passed = passed_none xs 8 _ e f; tried = ([], refl, writes_none a); small = omega arith }
+pub going_start : (xs : List ℕ) (a : Writer) {left : List ℕ} {at : ℕ} → a.at < 2 ^ 64 → left ≡ xs → at ≡ 8 → Going xs a 0 left at (accepted (tt {0})) a
+going_start xs a h e f = record { passed = passed_none xs 8 _ e f; tried = ([], refl, writes_none a h) }
 
 -- whether a parameter was refused
 going_none : true ≡ false → ⊥
@@ -63,18 +57,15 @@ module _
   pub going_more :
       {c : Writer} (o : Outcome (Unit {0}))
       → Going xs a n left at (accepted (tt {0})) b
-      → c.at ≤ b.at + 13 * most
       → Tried b (param_account built_in xs p) o c
       → Going xs a (n + 1) later to o c
-  going_more (accepted u) g h t = record {
+  going_more (accepted u) g t = record {
     passed = passed_next g.passed p to same e;
     tried = (g.tried.0 ++ t.0, last xs g.passed.reached.done p g.tried.1 t.1, writes_more g.tried.2 t.2);
-    small = omega (arith, g.small, h);
   }
-  going_more (refused m vs) g h t = record {
+  going_more (refused m vs) g t = record {
     passed = passed_next g.passed p to same e;
     tried = (last xs g.passed.reached.done p g.tried.1 t.0, t.1 ∙ g.tried.2.lent);
-    small = tt;
   }
 
   -- a refusal stays
@@ -83,7 +74,6 @@ module _
   going_refused (Err x) t g = record {
     passed = passed_next g.passed p to same e;
     tried = (last xs g.passed.reached.done p g.tried.0 refl, g.tried.1);
-    small = tt;
   }
 
 module _ {xs : List ℕ} {a : Writer} {n : ℕ} {left : List ℕ} {at : ℕ} {b : Writer} (h : length xs ≤ most) where

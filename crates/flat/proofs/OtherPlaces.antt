@@ -1,5 +1,5 @@
 -- The places of the other sub-parameters, stored one after the other.
-use Prim.Native.Nat.{ℕ, ◌+◌, ◌*◌, ◌≤◌}
+use Prim.Native.Nat.{ℕ, ◌*◌, ◌^◌, ◌≤◌, ◌<◌}
 use mathlib.Core.Path.{◌≡◌, refl, sym, ap, ◌∙◌, subst}
 use mathlib.Core.Bool.{true, false}
 use mathlib.Core.List.{List, [], ◌∷◌, ◌++◌, map, map-append, append_assoc, append-nil}
@@ -9,7 +9,7 @@ use Rattle.bcd.specs.Outcome.{accepted, bounded}
 use Rattle.bcd.proofs.Outcomes.{bounded-within}
 use Rattle.parameter.specs.declared.Place.{Place}
 use Rattle.parameter.specs.Walk.{ended, found, step_at, places}
-use Rattle.parameter.proofs.Reaching.{Reached, reached_start, walk_within, walk_found, walk_more, walk_end}
+use Rattle.parameter.proofs.Reaching.{Reached, reached_start, walk_within, walk_more, walk_end}
 use Rattle.address.specs.Listing.{is_other, other_places}
 use Rattle.address.specs.Steps.Plan.{places_in}
 use Rattle.address.proofs.Others.{others-append, others_fewer}
@@ -38,15 +38,14 @@ octets-length (p ∷ ps) = omega (arith, octets-length ps)
 pub listed-length : (base : ℕ) (ps : List Place) → length (listed base ps) ≤ 10 * length ps
 listed-length base ps = omega (arith, octets-length (map (moved base) (other_places ps)), length-map (other_places ps) (moved base), others_fewer ps)
 
--- how far they are stored; ten octets at most for each four behind
+-- how far they are stored
 pub record Listing (v : List ℕ) (base : ℕ) (a : Writer) (at : ℕ) (b : Writer) : Type 0 where
   pub reached : Reached v 4 at
   pub writes : Writes a (listed base reached.done) b
-  pub small : b.at + 40 ≤ a.at + 10 * at
 
-pub listing_start : (v : List ℕ) (base : ℕ) (a : Writer) → Listing v base a 4 a
+pub listing_start : (v : List ℕ) (base : ℕ) (a : Writer) → a.at < 2 ^ 64 → Listing v base a 4 a
 unfolding places_octets
-listing_start v base a = record { reached = reached_start v 4; writes = writes_none a; small = omega arith }
+listing_start v base a h = record { reached = reached_start v 4; writes = writes_none a h }
 
 module _ {v : List ℕ} {base : ℕ} {a b : Writer} {at : ℕ} (l : Listing v base a at b) where
   pub listing_more :
@@ -55,11 +54,9 @@ module _ {v : List ℕ} {base : ℕ} {a b : Writer} {at : ℕ} (l : Listing v ba
       → Writes b (listed base (p ∷ [])) c
       → Listing v base a next c
   listing_more p next {c} e x =
-      let f = walk_found v at e in
       record {
         reached = walk_more l.reached p next e;
         writes = subst (λ (os : List ℕ). Writes a os c) (sym (listed-append base l.reached.done (p ∷ []))) (writes_more l.writes x);
-        small = omega (arith, l.small, x.behind, listed-length base (p ∷ []), f.forward);
       }
 
   pub listing_done : accepted ended ≡ bounded v (step_at v at) → Writes a (listed base (places_in (places v 4))) b
@@ -72,6 +69,6 @@ pub other_there : {a b : Writer} (base : ℕ) (p : Place) → is_other p.tag ≡
 unfolding places_octets
 other_there base p t x = rw (t, append-nil) x
 
-pub other_none : (a : Writer) (base : ℕ) (p : Place) → is_other p.tag ≡ false → Writes a (listed base (p ∷ [])) a
+pub other_none : (a : Writer) (base : ℕ) (p : Place) → a.at < 2 ^ 64 → is_other p.tag ≡ false → Writes a (listed base (p ∷ [])) a
 unfolding places_octets
-other_none a base p t = rw t (writes_none a)
+other_none a base p h t = rw t (writes_none a h)

@@ -13,7 +13,6 @@ use Rattle.bcd.specs.Outcome.{Outcome, accepted, refused, Octets, Delivered, del
 use Rattle.bcd.specs.Answers.{numbered, refusal_of}
 use Rattle.bcd.specs.Digits.{built_in}
 use Rattle.bcd.proofs.Outcomes.{accepted_inj, never, le_or_lt, demand_inv, deliver_refused, deliver-short, deliver_buffer, deliver_answer}
-use Rattle.bcd.proofs.Writing.{untouched}
 use Rattle.parameter.specs.Table.{over}
 use Rattle.report.proofs.Reports.{number_small}
 use Rattle.parameter.specs.Parameter.{param_octets, run_octets, encode_param, two_at}
@@ -25,7 +24,7 @@ use Rattle.form.proofs.Demand3.{form_room}
 use Rattle.flat.specs.Line.{decimal_in, decimal, words_from, form_text, refused_line, most_taken, most_printed, settled_input, line_of, program_line, Printed}
 use Rattle.flat.specs.declared.writer.Writer.{Writer}
 use Rattle.flat.specs.Steps.Emitting.{Writes}
-use Rattle.flat.proofs.Emission.{emit_begun}
+use Rattle.flat.proofs.Emission.{writes_begun}
 use Rattle.flat.proofs.Lines.{decimal_one, decimal-digits, decimal-short, words-length}
 use Rattle.flat.proofs.Printing.{form_length, refused_length}
 
@@ -92,12 +91,11 @@ form_small xs o f e =
 module _ (xs : List ℕ) {a b : Writer} (front : a.at ≡ 0) (wide : most_printed ≤ length a.out.now) where
   line_is : (l : List ℕ) → program_line xs ≡ l → length l ≤ most_printed → Writes a l b → Printed xs a.out.now b.at b.out.now
   line_is l e h w =
-      let z : 0 ≡ a.at = sym front in
-      let begun = emit_begun a.at l (untouched a.out.now) z (omega (arith, front)) in
-      let count : b.at ≡ length l = omega (arith, w.behind, front) in
+      let begun = writes_begun w front (omega (arith, h, wide)) in
+      let count : b.at ≡ length l = omega (arith, h, w.behind, front) in
       record {
         count = count ∙ ap length (sym e);
-        line = w.held ∙ begun.holds ∙ ap (λ (l : List ℕ). over l a.out.now) (sym e);
+        line = begun.holds ∙ ap (λ (l : List ℕ). over l a.out.now) (sym e);
       }
 
   module _ (o : Octets xs) (form g : List ℕ) (room : most_taken ≤ length form) where

@@ -27,13 +27,8 @@ impl<'a> Writer<'a> {
     fn place(&mut self, place: Place)
         requires start_bound { place.start < 2 ^ 32 }
         requires length_bound { place.length < 2 ^ 32 }
-        requires at_bound { self.old.at ≤ 2 ^ 58 }
         ensures { Writes self.old (place_octets place) self.new }
     {
-        if self.out.len() <= self.at {
-            self.at += 10;
-            return;
-        }
         self.put(&place.tag.to_be_bytes());
         self.put(&(place.start as u32).to_be_bytes());
         self.put(&(place.length as u32).to_be_bytes());
@@ -43,7 +38,6 @@ impl<'a> Writer<'a> {
     fn digits(&mut self, bytes: &[u8], n: usize)
         requires n_bound { n ≤ 255 }
         requires n_bound_2 { n ≤ 2 * length bytes.now }
-        requires at_bound { self.old.at ≤ 2 ^ 59 }
         ensures { Writes self.old (digits_in built_in bytes.now n) self.new }
     {
         for i in 0..n {
@@ -55,14 +49,9 @@ impl<'a> Writer<'a> {
     fn title_there(&mut self, value: &[u8])
         requires in_bounds { 8 ≤ length value.now }
         requires value_len_bound { length value.now ≤ most }
-        requires at_bound { self.old.at ≤ 2 ^ 58 }
         ensures { Writes self.old (1 ∷ title_fields (title_at built_in value.now)) self.new }
     {
         let n = usize::from(value[4]).min(2 * (value.len() - 8));
-        if self.out.len() <= self.at {
-            self.at += 6 + n;
-            return;
-        }
         self.put(&[1, value[3], value[5], value[6], value[7], n as u8]);
         self.digits(&value[8..], n);
     }
@@ -71,7 +60,6 @@ impl<'a> Writer<'a> {
     fn title(&mut self, value: &[u8], kept: Option<Place>)
         requires held_in { HeldIn value.now 8 kept }
         requires value_len_bound { length value.now ≤ most }
-        requires at_bound { self.old.at ≤ 2 ^ 57 }
         ensures { Writes self.old (marked title_fields (kept_title built_in value.now kept)) self.new }
     {
         match kept {
@@ -82,8 +70,7 @@ impl<'a> Writer<'a> {
 
     // Stores the point code, if there is one, else 0.
     fn code(&mut self, value: &[u8], kept: Option<Place>)
-        requires held_in { HeldIn value.now 4 kept }
-        requires at_bound { self.old.at ≤ 2 ^ 57 }
+        requires { HeldIn value.now 4 kept }
         ensures { Writes self.old (marked four (kept_code value.now kept)) self.new }
     {
         match kept {
@@ -97,8 +84,7 @@ impl<'a> Writer<'a> {
 
     // Stores the SSN, if there is one, else 0.
     fn ssn(&mut self, value: &[u8], kept: Option<Place>)
-        requires held_in { HeldIn value.now 4 kept }
-        requires at_bound { self.old.at ≤ 2 ^ 57 }
+        requires { HeldIn value.now 4 kept }
         ensures { Writes self.old (marked (λ (n : ℕ). n ∷ []) (kept_sub value.now kept)) self.new }
     {
         match kept {
@@ -107,13 +93,17 @@ impl<'a> Writer<'a> {
         }
     }
 
-    // Stores the places of the other sub-parameters, counted from the message's first octet, by a second walk.
-    fn list_others(&mut self, value: &[u8], parts: Parts, base: usize)
+    // Stores the number of the other sub-parameters, and their places, counted from the message's first octet. It walks only
+    // where there are others to store.
+    fn others(&mut self, value: &[u8], parts: Parts, base: usize)
         requires read { Read value.now parts }
         requires value_bound { base + length value.now ≤ most }
-        requires at_bound { self.old.at ≤ 2 ^ 57 }
-        ensures { Writes self.old (listed base (places_in (places value.now 4))) self.new }
+        ensures { Writes self.old (others_fields base value.now parts) self.new }
     {
+        self.put(&(parts.other_count as u32).to_be_bytes());
+        if parts.other_count == 0 {
+            return;
+        }
         for place in Parameters::new(value, 4) {
             let Ok(place) = place else {
                 return;
@@ -125,29 +115,10 @@ impl<'a> Writer<'a> {
         }
     }
 
-    // Stores the number of the other sub-parameters, and their places. It walks only where there are others to store.
-    fn others(&mut self, value: &[u8], parts: Parts, base: usize)
-        requires read { Read value.now parts }
-        requires value_bound { base + length value.now ≤ most }
-        requires at_bound { self.old.at ≤ 2 ^ 56 }
-        ensures { Writes self.old (others_fields base value.now parts) self.new }
-    {
-        let count = parts.other_count;
-        if self.out.len() <= self.at {
-            self.at += 4 + 10 * count;
-            return;
-        }
-        self.put(&(count as u32).to_be_bytes());
-        if 0 < count {
-            self.list_others(value, parts, base);
-        }
-    }
-
     // Stores the fields of an address value that was read.
     fn fields(&mut self, value: &[u8], parts: Parts, base: usize)
         requires read { Read value.now parts }
         requires value_bound { base + length value.now ≤ most }
-        requires at_bound { self.old.at ≤ 2 ^ 55 }
         ensures { Writes self.old (parts_fields base value.now parts) self.new }
     {
         self.put(&[value[0], value[1], value[3] % 8]);
@@ -159,10 +130,8 @@ impl<'a> Writer<'a> {
 
     // Stores the account of an address value. Its reading's refusals.
     fn address(&mut self, value: &[u8], base: usize) -> Result<(), Refusal>
-        requires value_bound { base + length value.now ≤ most }
-        requires at_bound { self.old.at ≤ 2 ^ 55 }
-        ensures at_bound { self.new.at ≤ self.old.at + 12 * most }
-        ensures tried { Tried self.old (address_account built_in base value.now) (outcome_of result) self.new }
+        requires { base + length value.now ≤ most }
+        ensures { Tried self.old (address_account built_in base value.now) (outcome_of result) self.new }
     {
         let parts = interpret(value)?;
         self.fields(value, parts, base);
@@ -173,9 +142,7 @@ impl<'a> Writer<'a> {
     fn param(&mut self, input: &[u8], place: Place) -> Result<(), Refusal>
         requires input_len_bound { length input.now ≤ most }
         requires length_bound { place.start + place.length ≤ lib.ListN.length input.now }
-        requires at_bound { self.old.at ≤ 2 ^ 54 }
-        ensures at_bound { self.new.at ≤ self.old.at + 13 * most }
-        ensures tried { Tried self.old (param_account built_in input.now place) (outcome_of result) self.new }
+        ensures { Tried self.old (param_account built_in input.now place) (outcome_of result) self.new }
     {
         self.place(place);
         if is_address(place.tag) {
@@ -187,8 +154,7 @@ impl<'a> Writer<'a> {
     // Stores the account of all parameters from the seventh octet on, and answers how many they are. 5 or 6 in wire order,
     // then the first address's refusal.
     fn params(&mut self, input: &[u8]) -> Result<usize, Refusal>
-        requires input_len_bound { length input.now ≤ most }
-        requires at_bound { self.old.at ≤ 2 ^ 53 }
+        requires { length input.now ≤ most }
         ensures { Accounted input.now self.old (outcome_of result) self.new }
     {
         let mut n: usize = 0;

@@ -21,7 +21,6 @@ fn digit(d: u8) -> u8
 impl<'a> Writer<'a> {
     // Stores a number's decimal digits.
     fn decimal(&mut self, n: usize)
-        requires { self.old.at + length (decimal n) ≤ 2 ^ 60 }
         ensures { Writes self.old (decimal n) self.new }
     {
         if 9 < n {
@@ -32,17 +31,14 @@ impl<'a> Writer<'a> {
 
     // Stores the space that stands before the octet at place i, if one does.
     fn space(&mut self, i: usize)
-        requires { self.old.at < 2 ^ 60 }
         ensures { Writes self.old (space i) self.new }
     {
-        if 0 < i && i % 4 == 0 {
-            self.put(b" ");
-        }
+        let text: &[u8] = if 0 < i && i % 4 == 0 { b" " } else { b"" };
+        self.put(text);
     }
 
     // Stores octets as words.
     fn words(&mut self, octets: &[u8])
-        requires { self.old.at + 3 * length octets.now ≤ 2 ^ 60 }
         ensures { Writes self.old (words octets.now) self.new }
     {
         for (i, &octet) in octets.iter().enumerate() {
@@ -53,8 +49,6 @@ impl<'a> Writer<'a> {
 
     // Stores a form's line.
     fn form(&mut self, form: &[u8])
-        requires form_bound { length form.now ≤ most_taken }
-        requires at_bound { self.old.at ≤ 2 ^ 59 }
         ensures { Writes self.old (form_text form.now) self.new }
     {
         self.put(b"(form ");
@@ -66,7 +60,6 @@ impl<'a> Writer<'a> {
 
     // Stores the line of a refusal.
     fn refused(&mut self, refusal: Refusal)
-        requires { self.old.at ≤ 2 ^ 59 }
         ensures { Writes self.old (refused_line (numbered refusal).0) self.new }
     {
         self.put(b"(refused ");

@@ -1,8 +1,7 @@
-// Octets stored in a lent slice one after the other, as many of them as it has places for.
-ghost use Rattle.std.specs.Prelude.{◌+◌, ◌^◌, ◌≤◌, length};
+// Octets stored in a lent slice one after the other, where it has places for them.
 ghost use Rattle.flat.specs.Steps.Emitting.{Writes};
 
-// A slice, and the position of the next octet, which may lie behind the slice: octets that it has no place for are counted
+// A slice, and the position of the next octet, which may lie behind the slice: octets that it has no places for are counted
 // and not stored.
 #[derive(Drop)]
 pub(crate) struct Writer<'a> {
@@ -11,16 +10,14 @@ pub(crate) struct Writer<'a> {
 }
 
 impl<'a> Writer<'a> {
-    // Stores octets.
+    // Stores octets, where there are places for all.
     pub(crate) fn put(&mut self, octets: &[u8])
-        requires { self.old.at + length octets.now ≤ 2 ^ 60 }
         ensures { Writes self.old octets.now self.new }
     {
-        for &octet in octets {
-            if self.at < self.out.len() {
-                self.out[self.at] = octet;
-            }
-            self.at += 1;
+        let start = self.at;
+        self.at = start.saturating_add(octets.len());
+        if self.at <= self.out.len() {
+            self.out[start..self.at].copy_from_slice(octets);
         }
     }
 }

@@ -1,10 +1,11 @@
--- Octets stored from a position on, as many of them as the slice has places for.
-use Rattle.std.specs.Prelude.{ℕ, ◌+◌, ◌%◌, ◌≡◌, List, [], ◌∷◌, ◌++◌, map, length, get_or, set, ltb}
-use Rattle.bcd.specs.Outcome.{Outcome, accepted, refused, pick, after, each}
+-- Octets stored one after the other, where the slice has places for them.
+use Rattle.std.specs.Prelude.{ℕ, ◌+◌, ◌%◌, ◌≤◌, ◌≡◌, List, [], ◌∷◌, ◌++◌, map, length, get_or, take}
+use Rattle.bcd.specs.Outcome.{Outcome, accepted, refused, after, each, fit64}
 use Rattle.bcd.specs.Digits.{built_in}
 use Rattle.parameter.specs.declared.Place.{Place}
 use Rattle.parameter.specs.Parameter.{two, four, two_at}
 use Rattle.parameter.specs.Walk.{places}
+use Rattle.parameter.specs.Table.{over}
 use Rattle.address.specs.declared.parts.Parts.{Parts}
 use Rattle.address.specs.Steps.Kept.{kept_title, kept_code, kept_sub}
 use Rattle.address.specs.Listing.{other_places}
@@ -13,19 +14,13 @@ use Rattle.flat.specs.declared.writer.Writer.{Writer}
 use Rattle.flat.specs.Account.{places_octets, marked, title_fields, param_account}
 use Rattle.message.specs.Accessors.{moved}
 
--- An octet stored at a position that the slice has.
-abbrev pub stored : List ℕ → (at v : ℕ) → List ℕ
-stored d at v = pick (ltb at (length d)) (set d at v) d
-
-unfoldable pub emit : List ℕ → (at : ℕ) → List ℕ → List ℕ
-emit d at [] = d
-emit d at (v ∷ os) = emit (stored d at v) (at + 1) os
-
--- A writer before and after octets were stored: it holds the same slice, and its position stands behind them.
+-- A writer before and after octets were stored: it holds the same slice, its position stands behind them, and where the
+-- slice has places for all, they stand there.
 pub record Writes (a : Writer) (os : List ℕ) (b : Writer) : Type 0 where
   pub lent : b.out.ghost_name ≡ a.out.ghost_name
-  pub behind : b.at ≡ a.at + length os
-  pub held : b.out.now ≡ emit a.out.now a.at os
+  pub same : length b.out.now ≡ length a.out.now
+  pub behind : b.at ≡ fit64 (a.at + length os)
+  pub held : a.at + length os ≤ fit64 (length a.out.now) → b.out.now ≡ over (take a.at a.out.now ++ os) a.out.now
 
 -- The same for octets that may be refused: what was stored matters only where they are not.
 abbrev pub Tried : {A : Type 0} → Writer → Outcome (List ℕ) → Outcome A → Writer → Type 0

@@ -4,14 +4,14 @@ use native.Mathlib.Omega.{arith}
 use Rattle.bcd.proofs.Outcomes.{octets-of}
 use Rattle.bcd.proofs.Results.{exit}
 use Rattle.address.proofs.Interpreted.{interpreted-read, interpreted_refused}
-use Rattle.flat.proofs.Accounting.{parts_small, account_read, account_refused}
+use Rattle.flat.proofs.Accounting.{account_read, account_refused}
 use Rattle.flat.proofs.writer.Writer.address.Goals as goal
 
-pub returns-in_err-parts-clause-tried : goal.returns-in_err-parts-clause-tried
-returns-in_err-parts-clause-tried c =
+pub returns-in_err-parts : goal.returns-in_err-parts
+returns-in_err-parts c =
     let v = c.args.value.now in
     let e = interpreted_refused v _ _ c.in_err-parts.ensures in
-    rw (exit _ _ c.from_residual.ensures.1) (account_refused c.args.base v _ _ (omega (arith, c.requires.value_bound)) e, refl)
+    rw (exit _ _ c.from_residual.ensures.1) (account_refused c.args.base v _ _ (omega (arith, c.requires)) e, refl)
 
 pub fields-requires-clause-read : goal.fields-requires-clause-read
 fields-requires-clause-read c = interpreted-read (octets-of c.args.value.now (λ i. (c.type_inv.value i).fits)) c.in_ok-parts.ensures
@@ -19,4 +19,4 @@ fields-requires-clause-read c = interpreted-read (octets-of c.args.value.now (λ
 pub returns : goal.returns
 returns c =
     let r = interpreted-read (octets-of c.args.value.now (λ i. (c.type_inv.value i).fits)) c.in_ok-parts.ensures in
-    record { at_bound = omega (arith, c.fields.ensures.behind, parts_small c.args.base r); tried = (_, account_read c.args.base r, c.fields.ensures) }
+    (_, account_read c.args.base r, c.fields.ensures)

@@ -1,34 +1,70 @@
--- `flat::writer::Writer::others` meets its contract: there is nothing to store, or nothing but the number, or the walk stores all.
-use mathlib.Core.Path.{◌∙◌}
+-- `flat::writer::Writer::others` meets its contract: there is nothing but the number, or the walk stores all.
+use mathlib.Core.Path.{◌≡◌, sym, ◌∙◌}
 use native.Mathlib.Omega.{arith}
+use Rattle.bcd.proofs.Outcomes.{never, bounded-within}
+use Rattle.parameter.specs.Walk.{places}
+use Rattle.parameter.proofs.Reaching.{walk_found, walk_refused}
 use Rattle.address.proofs.Others.{count_small}
-use Rattle.flat.specs.Steps.Emitting.{others_fields}
-use Rattle.flat.proofs.Emission.{writes_beyond, writes_more, four_bytes}
-use Rattle.flat.proofs.Accounting.{others_length, others_none}
+use Rattle.flat.proofs.Emission.{writes_more, four_bytes}
+use Rattle.flat.proofs.Accounting.{others_none}
+use Rattle.flat.proofs.OtherPlaces.{listing_start, listing_more, listing_done, other_there, other_none}
 use Rattle.flat.proofs.writer.Writer.others.Goals as goal
 
-pub overflow_mul-self : goal.overflow_mul-self
-overflow_mul-self c = omega (arith, count_small c.requires.read.known)
+pub overflow_cast-parts : goal.overflow_cast-parts
+overflow_cast-parts c = omega (arith, count_small c.requires.read.known)
 
-pub overflow_add-self : goal.overflow_add-self
-overflow_add-self c = omega (arith, count_small c.requires.read.known)
-
-pub overflow_add-self-then-self : goal.overflow_add-self-then-self
-overflow_add-self-then-self c = omega (arith, count_small c.requires.read.known, c.requires.at_bound)
-
-pub returns-then-self : goal.returns-then-self
-returns-then-self c =
-    writes_beyond c.args.self.now (others_fields c.args.base c.args.value.now c.args.parts) c.if-self.true (others_length c.args.base c.requires.read)
-
-pub overflow_cast-count : goal.overflow_cast-count
-overflow_cast-count c = omega (arith, count_small c.requires.read.known)
-
-pub returns-then-count-gt0 : goal.returns-then-count-gt0
-returns-then-count-gt0 c =
+pub returns-then-parts-eq0 : goal.returns-then-parts-eq0
+returns-then-parts-eq0 c =
     let n = c.to_be_bytes.ensures ∙ four_bytes c.args.parts.other_count (omega (arith, count_small c.requires.read.known)) in
-    writes_more (rw n at c.put.ensures) c.list_others.ensures
+    others_none c.args.base c.requires.read c.if-parts-eq0.true (rw n at c.put.ensures)
 
-pub returns-else-count-gt0 : goal.returns-else-count-gt0
-returns-else-count-gt0 c =
+pub loop-place-init : goal.loop-place-init
+loop-place-init c =
+    let a : c.into_iter-place-iterator.result.at ≡ 4 = cc in
+    (cc, rw a (listing_start c.args.value.now c.args.base c.put.new.self (omega (arith, c))))
+
+pub returns-in_default : goal.returns-in_default
+returns-in_default c =
+    let v = c.args.value.now in
+    let i = c.loop-place.invariant in
+    let k = c.requires.read.known in
+    let s = rw (c.in_default.is, i.0) at c.in-Some.ensures.steps in
+    absurd (never (sym (sym (bounded-within v (places v 4) k.within) ∙ walk_refused i.1.reached _ _ s.1) ∙ k.walked))
+
+pub overflow_add-start : goal.overflow_add-start
+overflow_add-start c =
+    let i = c.loop-place.invariant in
+    let s = rw (c.in-Ok.is, i.0) at c.in-Some.ensures.steps in
+    let f = walk_found c.args.value.now c.loop-place.place-iterator.at s.1 in
+    omega (arith, f.inside, c.requires.value_bound)
+
+pub place-requires : goal.place-requires
+place-requires c =
+    let i = c.loop-place.invariant in
+    let s = rw (c.in-Ok.is, i.0) at c.in-Some.ensures.steps in
+    let f = walk_found c.args.value.now c.loop-place.place-iterator.at s.1 in
+    record {
+      start_bound = omega (arith, f.inside, c.requires.value_bound);
+      length_bound = omega (arith, f.inside, c.requires.value_bound);
+    }
+
+pub loop-place-preserved-then-is_other : goal.loop-place-preserved-then-is_other
+loop-place-preserved-then-is_other c =
+    let i = c.loop-place.invariant in
+    let s = rw (c.in-Ok.is, i.0) at c.in-Some.ensures.steps in
+    let t = sym c.is_other.ensures ∙ c.if-is_other.true in
+    (s.0, listing_more i.1 c.in-Ok.place _ s.1 (other_there c.args.base c.in-Ok.place t c.place.ensures))
+
+pub loop-place-preserved : goal.loop-place-preserved
+loop-place-preserved c =
+    let i = c.loop-place.invariant in
+    let s = rw (c.in-Ok.is, i.0) at c.in-Some.ensures.steps in
+    let t = sym c.is_other.ensures ∙ c.if-is_other.false in
+    (s.0, listing_more i.1 c.in-Ok.place _ s.1 (other_none c.loop-place.self c.args.base c.in-Ok.place (omega (arith, c)) t))
+
+pub returns : goal.returns
+returns c =
+    let i = c.loop-place.invariant in
+    let s = rw i.0 at c.in-None.ensures.steps in
     let n = c.to_be_bytes.ensures ∙ four_bytes c.args.parts.other_count (omega (arith, count_small c.requires.read.known)) in
-    others_none c.args.base c.requires.read (omega (arith, c.if-count-gt0.false)) (rw n at c.put.ensures)
+    writes_more (rw n at c.put.ensures) (listing_done i.1 s.1)

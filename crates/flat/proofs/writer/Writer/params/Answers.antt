@@ -10,24 +10,23 @@ use Rattle.flat.proofs.writer.Writer.params.Goals as goal
 pub loop-place-init : goal.loop-place-init
 loop-place-init c =
     let i = c.into_iter-place-iterator.ensures.into_iter_gives in
-    going_start c.args.input.now c.args.self.now (ap (λ (s : Parameters). s.bytes.now) i ∙ c.new-place-items.ensures.bytes) (ap (λ (s : Parameters). s.at) i ∙ c.new-place-items.ensures.at)
+    going_start c.args.input.now c.args.self.now (omega (arith, c)) (ap (λ (s : Parameters). s.bytes.now) i ∙ c.new-place-items.ensures.bytes) (ap (λ (s : Parameters). s.at) i ∙ c.new-place-items.ensures.at)
 
 pub returns-in_err-place : goal.returns-in_err-place
 returns-in_err-place c =
     let s = rw (c.in_err-place.was) at c.in-Some.ensures.steps in
-    rw (exit _ _ c.from_residual.ensures.1) (going_out c.requires.input_len_bound _ _ c.loop-place.invariant s.1)
+    rw (exit _ _ c.from_residual.ensures.1) (going_out c.requires _ _ c.loop-place.invariant s.1)
 
 pub param-told-requires : goal.param-told-requires
 param-told-requires c =
     let s = rw (c.in_ok-place.was) at c.in-Some.ensures.steps in
     let f = walk_found c.args.input.now c.loop-place.place-iterator.at (rw c.loop-place.invariant.passed.same at s.1) in
-    let g = going_ok c.loop-place.told c.if-is_ok.ensures.value c.loop-place.invariant in
-    record { input_len_bound = c.requires.input_len_bound; length_bound = f.inside; at_bound = omega (arith, c.requires, g.small, g.passed.few, f.least, f.within) }
+    record { input_len_bound = c.requires; length_bound = f.inside }
 
 pub loop-place-preserved-then-is_ok : goal.loop-place-preserved-then-is_ok
 loop-place-preserved-then-is_ok c =
     let s = rw (c.in_ok-place.was) at c.in-Some.ensures.steps in
-    going_more c.in_ok-place.place _ s.0 s.1 _ (going_ok c.loop-place.told c.if-is_ok.ensures.value c.loop-place.invariant) c.param-told.ensures.at_bound c.param-told.ensures.tried
+    going_more c.in_ok-place.place _ s.0 s.1 _ (going_ok c.loop-place.told c.if-is_ok.ensures.value c.loop-place.invariant) c.param-told.ensures
 
 pub loop-place-preserved : goal.loop-place-preserved
 loop-place-preserved c =
@@ -36,7 +35,7 @@ loop-place-preserved c =
 
 pub returns-in_err-told : goal.returns-in_err-told
 returns-in_err-told c =
-    rw (exit _ _ c.from_residual-in_err-told.ensures.1) (going_stopped c.requires.input_len_bound _ _ (rw c.in_err-told.was at c.loop-place.invariant) c.in-None.ensures.steps.1)
+    rw (exit _ _ c.from_residual-in_err-told.ensures.1) (going_stopped c.requires _ _ (rw c.in_err-told.was at c.loop-place.invariant) c.in-None.ensures.steps.1)
 
 pub returns : goal.returns
-returns c = going_done c.requires.input_len_bound (rw c.in_ok-told.was at c.loop-place.invariant) c.in-None.ensures.steps.1
+returns c = going_done c.requires (rw c.in_ok-told.was at c.loop-place.invariant) c.in-None.ensures.steps.1

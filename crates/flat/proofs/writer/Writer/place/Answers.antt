@@ -1,12 +1,8 @@
 -- `flat::writer::Writer::place` meets its contract.
-use mathlib.Core.Path.{refl, ◌∙◌}
+use mathlib.Core.Path.{◌∙◌}
 use native.Mathlib.Omega.{arith}
-use Rattle.flat.specs.Account.{place_octets}
-use Rattle.flat.proofs.Emission.{writes_beyond, writes_more, two_bytes, four_bytes}
+use Rattle.flat.proofs.Emission.{writes_more, two_bytes, four_bytes}
 use Rattle.flat.proofs.writer.Writer.place.Goals as goal
-
-pub returns-then-self : goal.returns-then-self
-returns-then-self c = writes_beyond c.args.self.now (place_octets c.args.place) c.if-self.true refl
 
 pub returns : goal.returns
 returns c =

@@ -52,13 +52,6 @@ pub decimal-short : (n : ℕ) → length (decimal n) ≤ 1 + n / 10
 decimal-short n = shorter n n (omega arith)
 
 -- the space before an octet
-pub space_short : (i : ℕ) → length (space i) ≤ 1
-space_short i = told (ltb 0 i && eqb (i % 4) 0)
-  where
-    told : (t : Bool) → length (pick {A = List ℕ} t (0x20 ∷ []) []) ≤ 1
-    told true = omega arith
-    told false = omega arith
-
 pub space_inside : (i : ℕ) → (i % 4 ≡ 0 → ⊥) → space i ≡ []
 space_inside i h = told (ltb 0 i)
   where

@@ -1,5 +1,5 @@
 -- The program's line fits its buffer, whatever the input.
-use Prim.Native.Nat.{ℕ, ◌+◌, ◌/◌, ◌≤◌, ◌<◌}
+use Prim.Native.Nat.{ℕ, ◌/◌, ◌≤◌, ◌<◌}
 use mathlib.Core.Path.{◌≡◌, refl, sym, ap, ◌∙◌}
 use mathlib.Core.Logic.{⊎_elim}
 use mathlib.Core.List.{List, [], ◌∷◌, ◌++◌}
@@ -119,13 +119,6 @@ module _ (xs : List ℕ) {a b : Writer} (front : a.at ≡ 0) (wide : most_printe
         let f = written (settled_input xs) n form g s in
         let small = form_small xs o f.octets f.whole in
         line_is (form_text f.octets) (ap line_of f.whole) (form_fits f.octets small) (rw f.front at w)
-
--- the line lies in its buffer
-pub printed_fits : {xs out d : List ℕ} {n : ℕ} → Printed xs out n d → n ≤ length d
-printed_fits {xs} {out} {d} {n} p =
-    let l : length d ≡ length (program_line xs) + length (drop (length (program_line xs)) out) =
-    ap length p.line ∙ length-append (program_line xs) (drop (length (program_line xs)) out) in
-    omega (arith, p.count)
 
 -- S4 and S5 print `(refused 5)` and `(form 16 (01000301 00000010 00040005 41000000))`.
 abbrev asp : List ℕ

@@ -10,46 +10,52 @@ use Rattle.bcd.specs.Outcome.{Outcome, accepted, refused, after, mapped, deliver
 use Rattle.bcd.specs.Digits.{built_in}
 use Rattle.bcd.proofs.Outcomes.{accepted_inj, never, mapped_inv, deliver_buffer, deliver_answer}
 use Rattle.bcd.proofs.Writing.{untouched, delivered}
-use Rattle.parameter.specs.Parameter.{param, padded_length, most_value, param_octets, run_octets, run_length, frame_param, encode_param}
+use Rattle.parameter.specs.Parameter.{param, padded_length, param_octets, run_octets, run_length, frame_param, encode_param}
 use Rattle.parameter.proofs.RoundTrip.{octets-length}
 use Rattle.parameter.proofs.Encoding.{encode_within, frame_known}
 use Rattle.parameter.proofs.InPlace.{framed-there}
 use Rattle.address.specs.Address.{read_address, write_address, rewrite_address}
 use Rattle.address.specs.Again.{with_unknown}
 use Rattle.address.proofs.Unknown.{rewritten_same}
+use Rattle.form.specs.declared.item.Item.{Item}
 use Rattle.form.specs.Form.{is_address, is_hop_counter, settled_param}
-use Rattle.form.specs.Steps.Passes.{Placeable}
+use Rattle.form.specs.Steps.Passes.{held, Placeable}
 use Rattle.form.proofs.Settling.{settled-address, settled_other, settled_counter}
 use Rattle.form.proofs.Passes.{one_length, one_octets, rewrite_read, rewrite_small}
 use Rattle.form.proofs.Written.{lent-length}
 
 -- A hop counter is not written.
 pub counter_placed :
-    (tag : ℕ) (v out : List ℕ)
-    → is_hop_counter tag ≡ true
-    → record { answer = accepted 0; buffer = out } ≡ deliver (mapped run_octets (settled_param built_in (param tag v))) out
+    (i : Item) (out : List ℕ)
+    → is_hop_counter i.tag ≡ true
+    → record { answer = accepted 0; buffer = out } ≡ deliver (mapped run_octets (settled_param built_in (held i))) out
 unfolding run_octets
-counter_placed tag v out t =
+counter_placed i out t =
     delivered 0 (untouched out) (omega arith)
-    ∙ ap (λ o. deliver (mapped run_octets o) out) (sym (settled_counter built_in (param tag v) t))
+    ∙ ap (λ o. deliver (mapped run_octets o) out) (sym (settled_counter built_in (held i) t))
 
 -- Any other parameter that is not an address is written as it is.
 pub raw_placed :
-    (tag : ℕ) (v out d : List ℕ) {a : Outcome ℕ}
-    → is_address tag ≡ false
-    → is_hop_counter tag ≡ false
-    → length v ≤ most_value
-    → record { answer = a; buffer = d } ≡ deliver (encode_param (param tag v)) out
-    → record { answer = a; buffer = d } ≡ deliver (mapped run_octets (settled_param built_in (param tag v))) out
-raw_placed tag v out d t c h e =
+    (i : Item) (out d : List ℕ) {a : Outcome ℕ}
+    → is_address i.tag ≡ false
+    → is_hop_counter i.tag ≡ false
+    → record { answer = a; buffer = d } ≡ deliver (encode_param (held i)) out
+    → record { answer = a; buffer = d } ≡ deliver (mapped run_octets (settled_param built_in (held i))) out
+raw_placed i out d t c e =
     e
     ∙ ap (λ o. deliver o out)
-    (encode_within (param tag v) h
-    ∙ ap accepted (sym (one_octets (param tag v)))
-    ∙ sym (ap (mapped run_octets) (settled_other built_in (param tag v) false t c)))
+    (encode_within (held i) i.small
+    ∙ ap accepted (sym (one_octets (held i)))
+    ∙ sym (ap (mapped run_octets) (settled_other built_in (held i) false t c)))
 
 -- An address is written again at the fifth octet, and framed.
-module _ (tag : ℕ) (v out : List ℕ) (t : is_address tag ≡ true) (h : length v ≤ most_value) (p : Placeable (settled_param built_in (param tag v)) (length out)) where
+module _ (i : Item) (out : List ℕ) (t : is_address i.tag ≡ true) (p : Placeable (settled_param built_in (held i)) (length out)) where
+  abbrev tag : ℕ
+  tag = i.tag
+
+  abbrev v : List ℕ
+  v = i.value.now
+
   rewrites : (w : List ℕ) × (rewrite_address built_in tag v ≡ accepted w) × (padded_length (length w) ≤ length out)
   rewrites =
       let (w, hw, same) = mapped_inv (λ w. param tag w ∷ []) (rewrite_address built_in tag v) (sym (settled-address built_in (param tag v) t) ∙ p.settles) in
@@ -68,7 +74,7 @@ module _ (tag : ℕ) (v out : List ℕ) (t : is_address tag ≡ true) (h : lengt
         let (w, hw, room) = rewrites in
         let lent = lent-length out 4 in
         let fits : length w ≤ length (mid_of 4 (length out - 4) out) = omega arith in
-        let e' = e ∙ ap (λ o. deliver o (mid_of 4 (length out - 4) out)) (rewritten_same tag v w (rewrite_read tag v h ∙ hw)) in
+        let e' = e ∙ ap (λ o. deliver o (mid_of 4 (length out - 4) out)) (rewritten_same tag v w (rewrite_read tag v i.small ∙ hw)) in
         (deliver_answer w (mid_of 4 (length out - 4) out) fits e', deliver_buffer w (mid_of 4 (length out - 4) out) fits e')
 
     pub never_refused : (n : ℕ) (vs : List ℕ) → answer ≡ refused n vs → ⊥
@@ -84,7 +90,7 @@ module _ (tag : ℕ) (v out : List ℕ) (t : is_address tag ≡ true) (h : lengt
         (n : ℕ) (a : Outcome ℕ) (d : List ℕ)
         → answer ≡ accepted n
         → record { answer = a; buffer = d } ≡ deliver (frame_param tag n front) front
-        → record { answer = a; buffer = d } ≡ deliver (mapped run_octets (settled_param built_in (param tag v))) out
+        → record { answer = a; buffer = d } ≡ deliver (mapped run_octets (settled_param built_in (held i))) out
     address_placed n a d r k =
         let (w, hw, room) = rewrites in
         let small = rewrite_small tag v w hw in
@@ -92,14 +98,14 @@ module _ (tag : ℕ) (v out : List ℕ) (t : is_address tag ≡ true) (h : lengt
         let k' : record { answer = a; buffer = d } ≡ deliver (frame_param tag (length w) front) front = rw same at k in
         let l = octets-length (param tag w) in
         let full = front_length in
-        let held = take (length w) (drop 4 front) in
-        let sized : length held ≡ length w = rw (length-take, length-drop) (omega arith) in
-        let l' : length (param_octets (param tag held)) ≡ padded_length (length w) = octets-length (param tag held) ∙ ap padded_length sized in
+        let stored = take (length w) (drop 4 front) in
+        let sized : length stored ≡ length w = rw (length-take, length-drop) (omega arith) in
+        let l' : length (param_octets (param tag stored)) ≡ padded_length (length w) = octets-length (param tag stored) ∙ ap padded_length sized in
         let size : a ≡ accepted (length (param_octets (param tag w))) =
-        deliver_answer (param_octets (param tag held)) front (omega arith)
+        deliver_answer (param_octets (param tag stored)) front (omega arith)
         (k' ∙ ap (λ o. deliver o front) (frame_known tag (length w) front small (omega arith)))
         ∙ ap accepted (l' ∙ sym l) in
-        let whole : accepted (param_octets (param tag w)) ≡ mapped run_octets (settled_param built_in (param tag v)) =
+        let whole : accepted (param_octets (param tag w)) ≡ mapped run_octets (settled_param built_in (held i)) =
         ap accepted (sym (one_octets (param tag w))) ∙ sym (ap (mapped run_octets) (settled-address built_in (param tag v) t ∙ ap (mapped (λ w. param tag w ∷ [])) hw)) in
         ap (λ (a : Outcome ℕ). record { answer = a; buffer = d }) size
         ∙ delivered (length (param_octets (param tag w))) (framed-there tag w out last d small room written.1 k') (omega arith)

@@ -1,24 +1,23 @@
 -- The second pass, parameter by parameter.
-use Prim.Native.Nat.{ℕ, ◌+◌, ◌-◌, ◌≤◌, ◌<◌}
+use Prim.Native.Nat.{ℕ, ◌+◌, ◌-◌, ◌≤◌}
 use mathlib.Core.Path.{◌≡◌, refl, sym, ap, ◌∙◌, subst}
 use mathlib.Core.List.{List, [], ◌∷◌, ◌++◌, map, map-append, append-nil}
 use native.Mathlib.Omega.{arith}
-use lib.ListN.{length, get_or, drop, length-take, length-drop}
+use lib.ListN.{length, drop, length-take, length-drop}
 use borrow.Rule.Slice.PartMut.{mid_of, put_mid}
 use Rattle.bcd.specs.Outcome.{Outcome, accepted, refused, mapped, each, bounded, most, deliver}
 use Rattle.bcd.specs.Digits.{built_in}
 use Rattle.bcd.proofs.Outcomes.{accepted_inj, never, each_inv, each_split, each_append, bounded-within, deliver_buffer, deliver_answer}
 use Rattle.bcd.proofs.Writing.{Begun, untouched, extend, delivered}
 use Rattle.parameter.specs.declared.Place.{Place}
-use Rattle.parameter.specs.Parameter.{Param, most_value, run_octets, run_length}
+use Rattle.parameter.specs.Parameter.{Param, run_octets, run_length}
 use Rattle.parameter.specs.Walk
 use Rattle.parameter.specs.Walk.{ended, found, step_at, places, valued}
 use Rattle.parameter.proofs.RoundTrip.{run_length_lem, run_length-append, run_octets-append}
-use Rattle.parameter.proofs.Reaching.{Reached, reached_start, reached_end, reached_refused, places_turn, walk_step, walk_found, walk_more}
+use Rattle.parameter.proofs.Reaching.{Reached, reached_start, reached_end, reached_refused, places_turn, walk_step, walk_more}
 use Rattle.form.specs.Form.{settled_param}
 use Rattle.form.specs.Steps.Passes.{settled_run, Placeable}
-use Rattle.form.proofs.Passes.{run_walked, run_refused, value_small}
-use Rattle.form.proofs.Measuring.{found_small}
+use Rattle.form.proofs.Passes.{run_walked, run_refused}
 
 -- The form's parameters are known, and fit.
 pub record Known (xs : List ℕ) (room : ℕ) : Type 0 where
@@ -53,7 +52,6 @@ lent-length d at = rw (length-take (length d - at) (drop at d), length-drop at d
 
 -- What a turn of the writing loop needs.
 pub record Turn (xs d : List ℕ) (q : Place) (at : ℕ) : Type 0 where
-  pub small : length (valued xs q).value ≤ most_value
   pub part : Placeable (settled_param built_in (valued xs q)) (length (mid_of at (length d - at) d))
   pub room : at ≤ length d
 
@@ -88,12 +86,11 @@ module _ {xs out d : List ℕ} {from at : ℕ} (k : Known xs (length out)) (p : 
         let z : run_length k.params ≡ run_length (us ++ vs) = ap run_length (sym j) in
         (qs, hq, omega (arith, k.fits))
 
-    pub turn : ((i : ℕ) → get_or xs i 0 < 256) → Turn xs d q at
-    turn o =
+    pub turn : Turn xs d q at
+    turn =
         let (qs, hq, room) = found_part in
         let l = lent-length d at in
         record {
-          small = value_small xs q (found_small xs from q next o (walk_found xs from e));
           part = record { params = qs; settles = hq; fits = omega (arith, p.begun.same) };
           room = omega (arith, p.begun.same);
         }

@@ -13,15 +13,11 @@ loop-place-init c =
     let at : c.into_iter-place-iterator.result.at ≡ 8 = cc in
     (cc, rw at (measuring_start c.args.input.now))
 
-pub add-sum-requires : goal.add-sum-requires
-add-sum-requires c =
+pub at-requires : goal.at-requires
+at-requires c =
     let octets : (i : ℕ) → get_or c.args.input.now i 0 < 256 = λ i. omega (arith, c.type_inv.input i) in
     let s = rw c.in_ok-place.was at c.in-Some.ensures.steps in
-    let f = walk_found c.args.input.now c.loop-place.place-iterator.at (rw c.loop-place.invariant.0 at s.1) in
-    record {
-      place_bound = found_small c.args.input.now _ _ _ octets f;
-      sum_bound = omega (arith, c.loop-place.invariant.1.small, f.least, f.within, c.requires);
-    }
+    found_small c.args.input.now _ _ _ octets (walk_found c.args.input.now c.loop-place.place-iterator.at (rw c.loop-place.invariant.0 at s.1))
 
 pub loop-place-preserved : goal.loop-place-preserved
 loop-place-preserved c =
@@ -29,7 +25,7 @@ loop-place-preserved c =
     let s = rw c.in_ok-place.was at c.in-Some.ensures.steps in
     let e = rw c.loop-place.invariant.0 at s.1 in
     let f = walk_found c.args.input.now c.loop-place.place-iterator.at e in
-    (s.0 ∙ c.loop-place.invariant.0, measuring_more c.loop-place.invariant.1 _ _ _ (found_small c.args.input.now _ _ _ octets f) e c.add-sum.ensures)
+    (s.0 ∙ c.loop-place.invariant.0, measuring_more c.loop-place.invariant.1 _ _ _ (found_small c.args.input.now _ _ _ octets f) e (rw c.at.ensures at c.add-sum.ensures))
 
 pub returns-in_err-place : goal.returns-in_err-place
 returns-in_err-place c =

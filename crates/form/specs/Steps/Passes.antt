@@ -2,9 +2,14 @@
 use Rattle.std.specs.Prelude.{ℕ, ◌≤◌, ◌≡◌, List, drop}
 use Rattle.bcd.specs.Outcome.{Outcome, accepted, refused, after, each}
 use Rattle.bcd.specs.Digits.{Alphabet}
-use Rattle.parameter.specs.Parameter.{Param, run_length}
+use Rattle.parameter.specs.Parameter.{Param, param, run_length}
 use Rattle.parameter.specs.Walk.{parameters}
 use Rattle.form.specs.Form.{settled_param}
+use Rattle.form.specs.declared.item.Item.{Item}
+
+-- The parameter that an item of the code holds.
+abbrev pub held : Item → Param
+held i = param i.tag i.value.now
 
 -- The parameters of the form: all are walked before any address is read (document 01, 'Order').
 unfoldable pub settled_run : Alphabet → List ℕ → Outcome (List Param)

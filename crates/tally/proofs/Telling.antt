@@ -23,11 +23,6 @@ take-map f zero xs = refl
 take-map f (suc n) [] = refl
 take-map f (suc n) (x ∷ xs) = ap (λ l. f x ∷ l) (take-map f n xs)
 
-map_at : (f : List ℕ → ℕ) (ps : List (List ℕ)) (i : ℕ) → i < length ps → get_or (map f ps) i 0 ≡ f (get_or ps i [])
-map_at f [] i h = absurd (omega arith)
-map_at f (p ∷ ps) zero h = refl
-map_at f (p ∷ ps) (suc i) h = map_at f ps i (omega arith)
-
 -- Decimal characters and their half octets.
 decimal_chars : (p : List ℕ) → every (between 0x30 0x39) p ≡ true → map built_in.char (values p) ≡ p
 decimal_chars [] e = refl
@@ -59,55 +54,30 @@ module _ (p hs : List ℕ) (d : every (between 0x30 0x39) p ≡ true) (small : N
       (chars_inj (values p) (take (length p) hs) (values-nibbles p d) first_small
       (decimal_chars p d ∙ sym (begins-take p (map built_in.char hs) e) ∙ take-map built_in.char (length p) hs))
 
--- Members, their lengths and numbers, and the numbers of at most n first half octets.
-pub record Given (ps : List (List ℕ)) (lengths held first : List ℕ) (n : ℕ) (hs : List ℕ) : Type 0 where
-  pub kept : Kept ps lengths held
+-- The numbers of at most n first half octets.
+pub record Firsts (first : List ℕ) (n : ℕ) (hs : List ℕ) : Type 0 where
   pub small : Nibbles hs
   pub long : length hs ≡ n
   pub numbers : (k : ℕ) → k ≤ n → get_or first k 0 ≡ code (take k hs)
 
-module _ {ps : List (List ℕ)} {lengths held first hs : List ℕ} {n : ℕ} (g : Given ps lengths held first n hs) where
-  module _ (i : ℕ) (h : i < length lengths) where
-    inside : i < length ps
-    inside = omega (arith, kept_count g.kept)
+-- They tell whether the digits begin with a prefix.
+module _ {first hs : List ℕ} {n : ℕ} (f : Firsts first n hs) (p : List ℕ) (d : every (between 0x30 0x39) p ≡ true) where
+  pub told-begins : length p ≤ n → get_or first (length p) 0 ≡ code (values p) → begins p (map built_in.char hs) ≡ true
+  told-begins l e = code-begins p hs d f.small (sym e ∙ f.numbers (length p) l)
 
-    pub member_length : get_or lengths i 0 ≡ length (get_or ps i [])
-    member_length = ap (λ l. get_or l i 0) g.kept.sizes ∙ map_at length ps i inside
+  pub begins-told : begins p (map built_in.char hs) ≡ true → (length p ≤ n) × (get_or first (length p) 0 ≡ code (values p))
+  begins-told e =
+      let l : length p ≤ n = omega (arith, begins-length p (map built_in.char hs) e, length-map hs built_in.char, f.long) in
+      (l, f.numbers (length p) l ∙ sym (begins-code p hs d f.small e))
 
-    member_number : get_or held i 0 ≡ code (values (get_or ps i []))
-    member_number =
-        sym (get_or-take (length ps) held i 0 inside) ∙ ap (λ l. get_or l i 0) g.kept.numbers ∙ map_at (λ p. code (values p)) ps i inside
-
-    decimal : every (between 0x30 0x39) (get_or ps i []) ≡ true
-    decimal = every_at (every (between 0x30 0x39)) ps i [] g.kept.decimal inside
-
-    pub told-begins : get_or lengths i 0 ≤ n → get_or first (get_or lengths i 0) 0 ≡ get_or held i 0 → begins (get_or ps i []) (map built_in.char hs) ≡ true
-    told-begins l e =
-        code-begins (get_or ps i []) hs decimal g.small
-        (sym member_number ∙ sym e ∙ g.numbers (get_or lengths i 0) l ∙ ap (λ k. code (take k hs)) member_length)
-
-    pub begins-told :
-        begins (get_or ps i []) (map built_in.char hs) ≡ true
-        → (get_or lengths i 0 ≤ n) × (get_or first (get_or lengths i 0) 0 ≡ get_or held i 0)
-    begins-told e =
-        let l : get_or lengths i 0 ≤ n =
-        omega (arith, member_length, begins-length (get_or ps i []) (map built_in.char hs) e, length-map hs built_in.char, g.long) in (
-          l,
-          g.numbers (get_or lengths i 0) l ∙ ap (λ k. code (take k hs)) member_length
-              ∙ sym (begins-code (get_or ps i []) hs decimal g.small e)
-              ∙ sym member_number,
-        )
-
--- The numbers of the first n half octets of octets, as a loop has stored them.
-pub given_here :
-    {ps : List (List ℕ)} {lengths held first : List ℕ} (xs : List ℕ) (n : ℕ)
-    → Kept ps lengths held
+-- As a loop has stored them, of the first n half octets of octets.
+pub firsts_here :
+    {first : List ℕ} (xs : List ℕ) (n : ℕ)
     → ((i : ℕ) → get_or xs i 0 < 256)
     → n ≤ 2 * length xs
     → ((k : ℕ) → k ≤ n → get_or first k 0 ≡ code (take k (halves xs)))
-    → Given ps lengths held first n (take n (halves xs))
-given_here xs n k octets h numbers = record {
-  kept = k;
+    → Firsts first n (take n (halves xs))
+firsts_here xs n octets h numbers = record {
   small = all_take (λ (h : ℕ). h < 16) n (halves xs) (halves_small xs octets);
   long = length-take-le n (halves xs) (rw (halves-length xs) h);
   numbers = λ k l. numbers k l ∙ ap code (sym (take-take k n (halves xs) l));

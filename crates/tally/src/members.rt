@@ -46,7 +46,7 @@ fn starts(octets: &[u8], n: usize) -> [u64; 16]
 
 impl<'a> Members<'a> {
     // A list that keeps the rules, with its numbers.
-    pub fn new(digits: &'a [u8], lengths: &'a [u8], numbers: &'a [u64; 64]) -> Members<'a>
+    pub(crate) fn new(digits: &'a [u8], lengths: &'a [u8], numbers: &'a [u64; 64]) -> Members<'a>
         requires { Numbered digits.now lengths.now numbers.now }
         ensures { result ≡ members digits.now lengths.now }
     {
@@ -58,7 +58,7 @@ impl<'a> Members<'a> {
     }
 
     // How many there are.
-    pub fn count(&self) -> usize
+    pub(crate) fn count(&self) -> usize
         ensures value { result ≡ length self.now }
         ensures few { result ≤ 64 }
     {
@@ -74,9 +74,9 @@ impl<'a> Members<'a> {
         let first = starts(octets, n);
         let mut best = 0;
         let mut row = self.lengths.len();
-        for (i, &k) in self.lengths.iter().enumerate() {
+        for (i, (&k, &number)) in self.lengths.iter().zip(self.numbers).enumerate() {
             let k = k as usize;
-            if best < k && k <= n && first[k] == self.numbers[i] {
+            if best < k && k <= n && first[k] == number {
                 best = k;
                 row = i;
             }
@@ -85,7 +85,7 @@ impl<'a> Members<'a> {
     }
 
     // The row of a title.
-    pub fn title_row(&self, title: &[u8]) -> usize
+    pub(crate) fn title_row(&self, title: &[u8]) -> usize
         requires { 8 ≤ length title.now }
         ensures { result ≡ longest self.now (title_at built_in title.now).digits }
     {

@@ -1,39 +1,41 @@
--- `tally::members::Members::longest` meets its contract: the loop has found the longest of the first i members.
-use mathlib.Core.Path.{◌∙◌}
+-- `tally::members::Members::longest` meets its contract: the loop has found the longest of the members that it has passed.
+use mathlib.Core.Path.{◌≡◌, sym, ap, ◌∙◌}
+use mathlib.Core.Logic.{inl, inr, ⊎_elim}
 use native.Mathlib.Omega.{arith}
+use Rattle.std.specs.Slice.Iter.{iter_rest}
 use Rattle.tally.proofs.Loading.{listed, kept}
-use Rattle.tally.proofs.Telling.{given_here}
-use Rattle.tally.proofs.Finding.{found_none, found_better, found_other, found_end}
+use Rattle.tally.proofs.Telling.{firsts_here}
+use Rattle.tally.proofs.Finding.{left_all, left_better, left_other, left_none}
 use Rattle.tally.proofs.LongestMember.{longest-digits}
 use Rattle.tally.proofs.members.Members.longest.Goals as goal
-use Rattle.tally.proofs.members.Members.longest.Goals.{then-best-k+then-k-n+then-first-k, else-best-k, else-best-k-via-then-best-k+then-k-n+else-first-k, else-best-k-via-then-best-k+else-k-n, else-best-k-via-else-best-k}
+use Rattle.tally.proofs.members.Members.longest.Goals.{else-best-k-via-then-best-k+then-k-n+else-first-k, else-best-k-via-then-best-k+else-k-n, else-best-k-via-else-best-k}
 
 pub loop-i-init : goal.loop-i-init
-loop-i-init c = found_none (kept c.self.invariant) (listed c.self.invariant).0.short _
+loop-i-init c =
+    let a : iter_rest c.into_iter-i-iterator.result.iter.a ≡ c.self.inside.lengths.now = cc in
+    let b : iter_rest c.into_iter-i-iterator.result.iter.b ≡ c.self.inside.numbers.now = cc in
+    rw (a, b, ← c.self.view_is) (left_all c.into_iter-i-iterator.result.count (kept c.self.invariant) (listed c.self.invariant).0.short _ cc)
 
-pub offset_bounds-self-inside-i : goal.offset_bounds-self-inside-i
-offset_bounds-self-inside-i c = omega (arith, (listed c.self.invariant).0.few)
-
-pub bounds-self-inside-i : goal.bounds-self-inside-i
-bounds-self-inside-i c = omega (arith, (listed c.self.invariant).0.few)
+pub loop-i-preserved-then-first-k : goal.loop-i-preserved-then-first-k
+loop-i-preserved-then-first-k c =
+    let s = c.in-Some.ensures.steps in
+    let f = firsts_here c.args.octets.now c.min-n.result (λ i. omega (arith, c.type_inv.octets i)) (omega (arith, c.min-n.ensures, c.min.ensures)) c.starts-first.ensures in
+    rw s.1 (left_better f c.loop-i.invariant s.0.0 s.0.1 s.2 c.if-best-k.true c.if-k-n.true c.if-first-k.true)
 
 pub loop-i-preserved : goal.loop-i-preserved
 loop-i-preserved c =
-    let given = given_here c.args.octets.now c.min-n.result (kept c.self.invariant) (λ i. omega (arith, c.type_inv.octets i)) (omega (arith, c.min-n.ensures, c.min.ensures)) c.starts-first.ensures in
-    elim c.if-best-k.branch [
-      | then-best-k+then-k-n+then-first-k w ↦ rw (w.best-is, w.row-is) (found_better given c.loop-i.best c.loop-i.row c.loop-i.i c.loop-i-test.true c.loop-i.invariant w.if-best-k.true w.if-k-n.true w.if-first-k.true)
-      | else-best-k w ↦ rw (w.best-is, w.row-is) (found_other given c.loop-i.best c.loop-i.row c.loop-i.i c.loop-i-test.true c.loop-i.invariant
-          (λ more short same.
-          elim w.else-best-k.branch [
-            | else-best-k-via-then-best-k+then-k-n+else-first-k u ↦ u.if-first-k.false same
-            | else-best-k-via-then-best-k+else-k-n u ↦ omega arith
-            | else-best-k-via-else-best-k u ↦ omega arith
-          ]))
-    ]
+    let s = c.in-Some.ensures.steps in
+    let f = firsts_here c.args.octets.now c.min-n.result (λ i. omega (arith, c.type_inv.octets i)) (omega (arith, c.min-n.ensures, c.min.ensures)) c.starts-first.ensures in
+    left_other f c.loop-i.invariant s.0.0 s.0.1 s.2
+    (λ more short same.
+    elim c.else-best-k.branch [
+      | else-best-k-via-then-best-k+then-k-n+else-first-k w ↦ w.if-first-k.false same
+      | else-best-k-via-then-best-k+else-k-n w ↦ omega arith
+      | else-best-k-via-else-best-k w ↦ omega arith
+    ])
 
 pub returns : goal.returns
 returns c =
-    let given = given_here c.args.octets.now c.min-n.result (kept c.self.invariant) (λ i. omega (arith, c.type_inv.octets i)) (omega (arith, c.min-n.ensures, c.min.ensures)) c.starts-first.ensures in
-    rw (← c.self.view_is)
-    (found_end given c.loop-i.best c.loop-i.row c.loop-i.i c.loop-i-test.false c.loop-i.invariant
-    ∙ longest-digits (kept c.self.invariant) (listed c.self.invariant).0.short c.args.octets.now c.args.count c.min-n.result (omega (arith, c.min-n.ensures, c.min.ensures)))
+    let f = firsts_here c.args.octets.now c.min-n.result (λ i. omega (arith, c.type_inv.octets i)) (omega (arith, c.min-n.ensures, c.min.ensures)) c.starts-first.ensures in
+    left_none f c.loop-i.invariant (⊎_elim (λ (x, z). inl z.0) (λ (x, z). inr z.0) c.in-None.ensures.steps.0)
+    ∙ rw (← c.self.view_is) (longest-digits (kept c.self.invariant) (listed c.self.invariant).0.short c.args.octets.now c.args.count c.min-n.result (omega (arith, c.min-n.ensures, c.min.ensures)))

@@ -10,7 +10,6 @@ use lib.Seq.{length-take-le}
 use borrow.Author.Tests.{eqb-true}
 use Rattle.std.specs.List.{sum}
 use Rattle.std.proofs.lemmas.List.{take_more_set, drop_more}
-use Rattle.bcd.specs.Outcome.{pick}
 use Rattle.bcd.proofs.Below.{both}
 use Rattle.tally.specs.Members.{between, every, members, distinct, valid_lengths, valid_members}
 use Rattle.tally.specs.Steps.Codes.{code, values, codes, unlike, Numbered}

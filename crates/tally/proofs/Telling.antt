@@ -5,7 +5,7 @@ use mathlib.Core.Bool.{true}
 use mathlib.Core.List.{List, [], ◌∷◌, map, head-eq_of_cons-eq, tail-eq_of_cons-eq, nil≢cons}
 use native.Mathlib.Omega.{arith}
 use lib.ListN.{length, get_or, take, length-map}
-use lib.Seq.{get_or-take, take-take, length-take-le}
+use lib.Seq.{take-take, length-take-le}
 use Rattle.bcd.specs.Digits.{built_in, halves}
 use Rattle.bcd.proofs.Outcomes.{all_take}
 use Rattle.bcd.proofs.Halves.{Nibbles, halves-length}
@@ -13,9 +13,9 @@ use Rattle.bcd.proofs.Characters.{built_in-distinct, char_decimal}
 use Rattle.bcd.proofs.Below.{both}
 use Rattle.tally.specs.Members.{between, every, begins}
 use Rattle.tally.specs.Steps.Codes.{code, values}
-use Rattle.tally.proofs.Codes.{code_inj, values-nibbles, Kept, kept_count}
+use Rattle.tally.proofs.Codes.{code_inj, values-nibbles}
 use Rattle.tally.proofs.Starts.{halves_small}
-use Rattle.tally.proofs.Lists.{every_at, between_inv}
+use Rattle.tally.proofs.Lists.{between_inv}
 use Rattle.tally.proofs.Beginning.{begins-take, take_begins, begins-length}
 
 pub take-map : {A B : Type 0} (f : A → B) (n : ℕ) (xs : List A) → take n (map f xs) ≡ map f (take n xs)

@@ -1,11 +1,10 @@
 -- `tally::list::code` meets its contract: the loop has the number of the first digits.
 use Prim.Native.Nat.{◌-◌}
-use mathlib.Core.Path.{sym, ap, ◌∙◌}
+use mathlib.Core.Path.{sym, ◌∙◌}
 use native.Mathlib.Omega.{arith}
 use lib.ListN.{get_or, length-map, get_or-map}
-use lib.Seq.{take_all}
 use Rattle.tally.specs.Members.{between}
-use Rattle.tally.specs.Steps.Codes.{code, values}
+use Rattle.tally.specs.Steps.Codes.{values}
 use Rattle.tally.proofs.Lists.{between_inv, every_at}
 use Rattle.tally.proofs.Codes.{coded_none, coded_next, coded_most}
 use Rattle.tally.proofs.list.code.Goals as goal

@@ -1,5 +1,5 @@
 -- `tally::members::Members::longest` meets its contract: the loop has found the longest of the members that it has passed.
-use mathlib.Core.Path.{◌≡◌, sym, ap, ◌∙◌}
+use mathlib.Core.Path.{◌≡◌, ◌∙◌}
 use mathlib.Core.Logic.{inl, inr, ⊎_elim}
 use native.Mathlib.Omega.{arith}
 use Rattle.std.specs.Slice.Iter.{iter_rest}

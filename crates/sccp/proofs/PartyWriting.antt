@@ -19,7 +19,7 @@ use Rattle.sccp.specs.declared.common.Common.{Common}
 use Rattle.sccp.proofs.Copying.{packed-length, digits_count, digits-written}
 use Rattle.sccp.proofs.Parts.{code_small}
 use Rattle.sccp.proofs.Parties.{passed, party_octets}
-use Rattle.sccp.proofs.Writing.{Put, put-behind, room-behind}
+use Rattle.sccp.proofs.Writing.{Put, put-behind}
 
 -- The octets of a title in front of its digits, and all of them, if it is there.
 abbrev pub title_head : Title → List ℕ
@@ -126,11 +126,8 @@ module _ (p : Common) (out : List ℕ) (room : party_length p ≤ length out) {i
   code-room : 1 + length (code_octets p.point_code) ≤ length out
   code-room = omega (arith, code-size p.point_code)
 
-  pub room_code : length (code_octets p.point_code) ≤ length (mid_of 1 (length first - 1) first)
-  room_code = room-behind (code_octets p.point_code) 1 indicated refl code-room
-
   module _ {a : ℕ} {x : List ℕ} (put_a : record { answer = accepted a; buffer = x } ≡ deliver (accepted (code_octets p.point_code)) (mid_of 1 (length first - 1) first)) where
-    pub coded : Put out (indicator (address_from p) ∷ []) (code_octets p.point_code) first 1 a x
+    coded : Put out (indicator (address_from p) ∷ []) (code_octets p.point_code) first 1 a x
     coded = put-behind (code_octets p.point_code) 1 indicated refl code-room a x put_a
 
     abbrev pub second : List ℕ
@@ -139,11 +136,8 @@ module _ (p : Common) (out : List ℕ) (room : party_length p ≤ length out) {i
     sub-room : 1 + a + length (sub_octets p.ssn) ≤ length out
     sub-room = omega (arith, coded.count, code-size p.point_code, sub-size p.ssn)
 
-    pub room_sub : length (sub_octets p.ssn) ≤ length (mid_of (1 + a) (length second - (1 + a)) second)
-    room_sub = room-behind (sub_octets p.ssn) (1 + a) coded.begun coded.place sub-room
-
     module _ {b : ℕ} {y : List ℕ} (put_b : record { answer = accepted b; buffer = y } ≡ deliver (accepted (sub_octets p.ssn)) (mid_of (1 + a) (length second - (1 + a)) second)) where
-      pub subbed : Put out (up_to_code p) (sub_octets p.ssn) second (1 + a) b y
+      subbed : Put out (up_to_code p) (sub_octets p.ssn) second (1 + a) b y
       subbed = put-behind (sub_octets p.ssn) (1 + a) coded.begun coded.place sub-room b y put_b
 
       abbrev pub third : List ℕ
@@ -152,11 +146,8 @@ module _ (p : Common) (out : List ℕ) (room : party_length p ≤ length out) {i
       title-room : 1 + a + b + length (title_run p.title) ≤ length out
       title-room = omega (arith, coded.count, subbed.count, code-size p.point_code, sub-size p.ssn, title_size p.title)
 
-      pub room_title : title_length p.title ≤ length (mid_of (1 + a + b) (length third - (1 + a + b)) third)
-      room_title = omega (arith, room-behind (title_run p.title) (1 + a + b) subbed.begun subbed.place title-room, title_size p.title)
-
       module _ {e : ℕ} {z : List ℕ} (put_e : record { answer = accepted e; buffer = z } ≡ deliver (title_octets (option_map title_from p.title)) (mid_of (1 + a + b) (length third - (1 + a + b)) third)) where
-        pub titled : Put out (up_to_sub p) (title_run p.title) third (1 + a + b) e z
+        titled : Put out (up_to_sub p) (title_run p.title) third (1 + a + b) e z
         titled =
             put-behind (title_run p.title) (1 + a + b) subbed.begun subbed.place title-room e z
             (put_e ∙ ap (λ (o : Outcome (List ℕ)). deliver o (mid_of (1 + a + b) (length third - (1 + a + b)) third)) (title_known p.title))

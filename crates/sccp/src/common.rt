@@ -59,7 +59,8 @@ impl<'a> Digits<'a> {
     #[tactic(auto, unfolding(bcd::specs::Outcome::deliver))]
     pub(crate) fn put(self, out: &mut [u8]) -> usize
         requires { length self.octets.now ≤ length out.old }
-        ensures { delivered (accepted result) out.new ≡ deliver (accepted (packed self.entry)) out.old }
+        ensures size { result ≡ length self.entry.octets.now }
+        ensures written { delivered (accepted result) out.new ≡ deliver (accepted (packed self.entry)) out.old }
     {
         let whole = self.count / 2;
         out[..whole].copy_from_slice(&self.octets[..whole]);

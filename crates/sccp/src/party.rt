@@ -1,6 +1,6 @@
 // Party addresses of SCCP, read and written (ITU-T Q.713, 3.4).
-ghost use Rattle.std.specs.Prelude.{◌≡◌, ◌≤◌, length, option_map, unwrap_or, IfOk};
-ghost use Rattle.bcd.specs.Outcome.{accepted, mapped, bounded, delivered, deliver};
+ghost use Rattle.std.specs.Prelude.{◌≡◌, ◌≤◌, length, option_map, unwrap_or, is_some, IfOk};
+ghost use Rattle.bcd.specs.Outcome.{accepted, pick, mapped, bounded, delivered, deliver};
 ghost use Rattle.bcd.specs.Answers.{outcome_of};
 ghost use Rattle.sccp.specs.Sccp.{code_in, sub_in, digit_count, digits_of, title_in, title_by, sccp_in};
 ghost use Rattle.sccp.specs.Sccp.{code_octets, sub_octets, title_octets, indicator, sccp_octets};
@@ -128,8 +128,9 @@ pub(crate) fn read(octets: &[u8]) -> Result<Common<'_>, Refusal>
 // Stores the point code, if it is there, the low octet first, and tells how many octets it takes.
 #[tactic(auto, unfolding(bcd::specs::Outcome::deliver))]
 fn put_code(code: Option<u16>, out: &mut [u8]) -> usize
-    requires { length (code_octets code) ≤ length out.old }
-    ensures { delivered (accepted result) out.new ≡ deliver (accepted (code_octets code)) out.old }
+    requires { pick (is_some code) 2 0 ≤ length out.old }
+    ensures size { result ≡ pick (is_some code) 2 0 }
+    ensures written { delivered (accepted result) out.new ≡ deliver (accepted (code_octets code)) out.old }
 {
     let Some(code) = code else {
         return 0;
@@ -141,8 +142,9 @@ fn put_code(code: Option<u16>, out: &mut [u8]) -> usize
 // Stores the SSN, if it is there, and tells how many octets it takes.
 #[tactic(auto, unfolding(bcd::specs::Outcome::deliver))]
 fn put_ssn(ssn: Option<u8>, out: &mut [u8]) -> usize
-    requires { length (sub_octets ssn) ≤ length out.old }
-    ensures { delivered (accepted result) out.new ≡ deliver (accepted (sub_octets ssn)) out.old }
+    requires { pick (is_some ssn) 1 0 ≤ length out.old }
+    ensures size { result ≡ pick (is_some ssn) 1 0 }
+    ensures written { delivered (accepted result) out.new ≡ deliver (accepted (sub_octets ssn)) out.old }
 {
     let Some(ssn) = ssn else {
         return 0;
@@ -155,7 +157,8 @@ fn put_ssn(ssn: Option<u8>, out: &mut [u8]) -> usize
 #[tactic(auto, unfolding(bcd::specs::Outcome::deliver))]
 fn put_title(title: Option<Title<'_>>, out: &mut [u8]) -> usize
     requires { title_length title ≤ length out.old }
-    ensures { delivered (accepted result) out.new ≡ deliver (title_octets (option_map title_from title.entry)) out.old }
+    ensures size { result ≡ title_length title.entry }
+    ensures written { delivered (accepted result) out.new ≡ deliver (title_octets (option_map title_from title.entry)) out.old }
 {
     let Some(title) = title else {
         return 0;

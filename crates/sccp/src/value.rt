@@ -156,20 +156,6 @@ fn write_head(address: Common<'_>, out: &mut [u8])
     out[..4].copy_from_slice(&[0, routing, 0, bits]);
 }
 
-// The value of a point code as a sub-parameter.
-fn code_value(code: u16) -> [u8; 4]
-    ensures { result ≡ four code }
-{
-    u32::from(code).to_be_bytes()
-}
-
-// The value of an SSN as a sub-parameter.
-fn ssn_value(ssn: u8) -> [u8; 4]
-    ensures { result ≡ ssn_value ssn }
-{
-    [0, 0, 0, ssn]
-}
-
 // How many octets an address value takes.
 fn value_length(address: Common<'_>) -> usize
     ensures { result ≡ value_length address.entry }
@@ -192,8 +178,8 @@ pub(crate) fn write(address: Common<'_>, out: &mut [u8]) -> Result<usize, Refusa
     // There is room, so that no part is refused.
     write_head(address, out);
     let code_place = 4 + write_title(address.title, &mut out[4..])?;
-    let code = address.point_code.map(code_value);
+    let code = address.point_code.map(u32::from).map(u32::to_be_bytes);
     let ssn_place = code_place + write_four(tags::POINT_CODE, code, &mut out[code_place..])?;
-    let ssn = address.ssn.map(ssn_value);
+    let ssn = address.ssn.map(u32::from).map(u32::to_be_bytes);
     Ok(ssn_place + write_four(tags::SUBSYSTEM_NUMBER, ssn, &mut out[ssn_place..])?)
 }

@@ -1,10 +1,6 @@
 -- `sccp::value::write` meets its contract: the buffer after each part.
 use native.Mathlib.Omega.{arith}
 use borrow.Author.Rules.{rules}
-use mathlib.Core.Path.{◌≡◌}
-use Rattle.parameter.specs.Parameter.{four}
-use Rattle.std.specs.Prelude.{option_map}
-use Rattle.sccp.specs.Steps.{ssn_value}
 use Rattle.sccp.proofs.ValueWriting.{value_short, title_never, titled, code_never, coded, sub_never, subbed, value_done}
 use Rattle.sccp.proofs.value.write.Goals as goal
 
@@ -28,42 +24,32 @@ slice_bounds-write_four-start c = let h = titled c.args.address c.args.out.now (
 
 pub returns-in_err-ssn_place : goal.returns-in_err-ssn_place
 returns-in_err-ssn_place c =
-    let code : c.map-code.result ≡ option_map four c.args.address.point_code = search rules in
-    code_never c.args.address c.args.out.now (omega arith) c.write_head.ensures c.in_ok-code_place.ensures code c.in_err-ssn_place.ensures
+    code_never c.args.address c.args.out.now (omega arith) c.write_head.ensures c.in_ok-code_place.ensures (search rules) c.in_err-ssn_place.ensures
 
 pub overflow_add-ssn_place : goal.overflow_add-ssn_place
 overflow_add-ssn_place c =
-    let code : c.map-code.result ≡ option_map four c.args.address.point_code = search rules in
-    let h = coded c.args.address c.args.out.now (omega arith) c.write_head.ensures c.in_ok-code_place.ensures code c.in_ok-ssn_place.ensures in
+    let h = coded c.args.address c.args.out.now (omega arith) c.write_head.ensures c.in_ok-code_place.ensures (search rules) c.in_ok-ssn_place.ensures in
     omega (arith, h.place, h.begun.fits)
 
 pub slice_bounds-write_four-count-2 : goal.slice_bounds-write_four-count-2
 slice_bounds-write_four-count-2 c =
-    let code : c.map-code.result ≡ option_map four c.args.address.point_code = search rules in
-    let h = coded c.args.address c.args.out.now (omega arith) c.write_head.ensures c.in_ok-code_place.ensures code c.in_ok-ssn_place.ensures in
+    let h = coded c.args.address c.args.out.now (omega arith) c.write_head.ensures c.in_ok-code_place.ensures (search rules) c.in_ok-ssn_place.ensures in
     omega (arith, h.place, h.begun.fits, h.begun.same)
 
 pub slice_bounds-write_four-start-2 : goal.slice_bounds-write_four-start-2
 slice_bounds-write_four-start-2 c =
-    let code : c.map-code.result ≡ option_map four c.args.address.point_code = search rules in
-    let h = coded c.args.address c.args.out.now (omega arith) c.write_head.ensures c.in_ok-code_place.ensures code c.in_ok-ssn_place.ensures in
+    let h = coded c.args.address c.args.out.now (omega arith) c.write_head.ensures c.in_ok-code_place.ensures (search rules) c.in_ok-ssn_place.ensures in
     omega (arith, h.place, h.begun.fits, h.begun.same)
 
 pub returns-in_err-write_four : goal.returns-in_err-write_four
 returns-in_err-write_four c =
-    let code : c.map-code.result ≡ option_map four c.args.address.point_code = search rules in
-    let sub : c.map-ssn.result ≡ option_map ssn_value c.args.address.ssn = search rules in
-    sub_never c.args.address c.args.out.now (omega arith) c.write_head.ensures c.in_ok-code_place.ensures code c.in_ok-ssn_place.ensures sub c.in_err-write_four.ensures
+    sub_never c.args.address c.args.out.now (omega arith) c.write_head.ensures c.in_ok-code_place.ensures (search rules) c.in_ok-ssn_place.ensures (search rules) c.in_err-write_four.ensures
 
 pub overflow_add-result : goal.overflow_add-result
 overflow_add-result c =
-    let code : c.map-code.result ≡ option_map four c.args.address.point_code = search rules in
-    let sub : c.map-ssn.result ≡ option_map ssn_value c.args.address.ssn = search rules in
-    let h = subbed c.args.address c.args.out.now (omega arith) c.write_head.ensures c.in_ok-code_place.ensures code c.in_ok-ssn_place.ensures sub c.in_ok-write_four.ensures in
+    let h = subbed c.args.address c.args.out.now (omega arith) c.write_head.ensures c.in_ok-code_place.ensures (search rules) c.in_ok-ssn_place.ensures (search rules) c.in_ok-write_four.ensures in
     omega (arith, h.place, h.begun.fits)
 
 pub returns : goal.returns
 returns c =
-    let code : c.map-code.result ≡ option_map four c.args.address.point_code = search rules in
-    let sub : c.map-ssn.result ≡ option_map ssn_value c.args.address.ssn = search rules in
-    value_done c.args.address c.args.out.now (omega arith) c.write_head.ensures c.in_ok-code_place.ensures code c.in_ok-ssn_place.ensures sub c.in_ok-write_four.ensures
+    value_done c.args.address c.args.out.now (omega arith) c.write_head.ensures c.in_ok-code_place.ensures (search rules) c.in_ok-ssn_place.ensures (search rules) c.in_ok-write_four.ensures

@@ -69,16 +69,6 @@ beside a b c out e =
     let high = leb-true c b h in
     ⊎_elim (λ below. omega arith) (λ above. omega arith) out
 
--- every other octet but 0 to 9, * # and the letters
-pub nibble_none :
-    (c : ℕ) → c < 256 → (c < 48) ⊎ (57 < c) → (c ≡ 42 → ⊥) → (c ≡ 35 → ⊥) → (c < 97) ⊎ (99 < c) → (c < 65) ⊎ (67 < c) → 16 ≡ nibble built_in c
-nibble_none c small decimal star hash letter capital =
-    let test : ℕ → Bool =
-    λ i. (leb 48 i && leb i 57)
-    || (eqb i 42 || (eqb i 35 || ((leb 97 i && leb i 99) || ((leb 65 i && leb i 67) || eqb 16 (nibble built_in i))))) in
-    let behind = key c 35 _ (key c 42 _ (otherwise _ _ (below_at 256 test refl c small) (beside 48 57 c decimal)) star) hash in
-    eqb-true _ _ (otherwise _ _ (otherwise _ _ behind (beside 97 99 c letter)) (beside 65 67 c capital))
-
 -- the built-in characters are a lawful alphabet
 pub built_in_lawful : Lawful built_in
 built_in_lawful = record { small = small; back = back }

@@ -2,13 +2,14 @@
 use Prim.Native.Nat.{ℕ, zero, suc, ◌+◌, ◌*◌, ◌/◌, ◌%◌, ◌≤◌, ◌<◌, min}
 use mathlib.Core.Path.{◌≡◌, refl, sym, ap, ap₂, ◌∙◌}
 use mathlib.Core.Logic.{⊎_elim}
-use mathlib.Core.List.{List, [], ◌∷◌, map}
+use mathlib.Core.List.{List, [], ◌∷◌, ◌++◌, map}
 use native.Mathlib.Omega.{arith}
-use lib.ListN.{length, get_or, take, replicate, length-map, length-take, length-replicate, get_or-eq_default}
-use lib.Seq.{get_or-take, take_all}
-use Rattle.bcd.specs.Outcome.{accepted, refused, mapped, most, deliver}
+use Rattle.std.specs.Simd.{first_chunks}
+use lib.ListN.{length, get_or, take, drop, replicate, length-map, length-take, get_or-eq_default}
+use lib.Seq.{get_or-take, get_or-drop, take_all}
+use Rattle.bcd.specs.Outcome.{accepted, refused, mapped, most}
 use Rattle.bcd.specs.Digits.{Alphabet, halves, pack, digits_in, digits_record, read_digits}
-use Rattle.bcd.proofs.Outcomes.{le_or_lt, bounded-within, bounded_beyond, deliver_buffer}
+use Rattle.bcd.proofs.Outcomes.{le_or_lt, bounded-within, bounded_beyond}
 use Rattle.bcd.proofs.Halves.{halves-length, halves_low, halves_high, pack_at}
 
 -- an element of a list that was mapped
@@ -30,6 +31,29 @@ octet_one f cs k h l =
     let none : get_or (map f cs) (2 * k + 1) 0 ≡ 0 = get_or-eq_default (map f cs) 0 (rw (length-map cs f) l) in
     let one = map_at f cs (2 * k) h in
     sym (pack_at (map f cs) k ∙ omega arith)
+
+-- the pairs of a list and its odd last element, by their places
+pair_at : (xs : List ℕ) (n k : ℕ) (d : List ℕ) → k < n → 2 * n ≤ length xs → get_or (first_chunks 2 n xs) k d ≡ get_or xs (2 * k) 0 ∷ get_or xs (2 * k + 1) 0 ∷ []
+pair_at xs zero k d h l = absurd (omega arith)
+pair_at [] (suc n) k d h l = absurd (omega arith)
+pair_at (x ∷ []) (suc n) k d h l = absurd (omega arith)
+pair_at (x ∷ y ∷ xs) (suc n) zero d h l = refl
+pair_at (x ∷ y ∷ xs) (suc n) (suc k) d h l =
+    let e : 2 * suc k + 1 ≡ suc (suc (2 * k + 1)) = omega arith in
+    let f : 2 * suc k ≡ suc (suc (2 * k)) = omega arith in
+    rw (e, f) (pair_at xs n k d (omega arith) (omega arith))
+
+module _ (xs : List ℕ) (k : ℕ) (pairs : List (List ℕ)) (d : List ℕ) (e : pairs ≡ first_chunks 2 (length xs / 2) xs) (h : k < length xs / 2) where
+  pub low_of : get_or (get_or pairs k d) 0 0 ≡ get_or xs (2 * k) 0
+  low_of = rw (e, pair_at xs (length xs / 2) k d h (omega arith))
+
+  pub high_of : get_or (get_or pairs k d) 1 0 ≡ get_or xs (2 * k + 1) 0
+  high_of = rw (e, pair_at xs (length xs / 2) k d h (omega arith))
+
+pub odd_of : (xs odd : List ℕ) → odd ≡ drop (length xs / 2 * 2) xs → get_or odd 0 0 ≡ get_or xs (2 * (length xs / 2)) 0
+odd_of xs odd e =
+    let t : length xs / 2 * 2 ≡ 2 * (length xs / 2) = omega arith in
+    rw (e, t, get_or-drop (2 * (length xs / 2)) xs 0 0) (let z : 2 * (length xs / 2) + 0 ≡ 2 * (length xs / 2) = omega arith in rw z refl)
 
 -- a half octet: the low one of an octet at an even place, else the high one
 pub half_even : (xs : List ℕ) (i : ℕ) → i % 2 ≡ 0 → get_or xs (i / 2) 0 % 16 ≡ get_or (halves xs) i 0
@@ -75,13 +99,10 @@ module _ (A : Alphabet) (xs : List ℕ) where
       (count n : ℕ) (d : List ℕ)
       → length xs ≤ most
       → n ≡ min count (2 * length xs)
-      → n ≤ 255
-      → record { answer = accepted n; buffer = d } ≡ deliver (accepted (digits_in A xs n)) (replicate 255 0)
-      → accepted (record { digits = d; count = n }) ≡ mapped digits_record (read_digits A xs count)
+      → d ≡ digits_in A xs n
+      → accepted (record { digits = d ++ drop n (replicate 255 0); count = n }) ≡ mapped digits_record (read_digits A xs count)
   unfolding read_digits
-  reading_done count n d h e small done =
+  reading_done count n d h e done =
       let same : digits_in A xs n ≡ digits_in A xs count = rw e (digits-most count) in
       let l : length (digits_in A xs n) ≡ n = digits-length n ∙ omega arith in
-      let room : length (digits_in A xs n) ≤ length {A = ℕ} (replicate 255 0) = omega (arith, length-replicate {A = ℕ} 255 0) in
-      let b = deliver_buffer (digits_in A xs n) (replicate 255 0) room done in
-      rw (bounded-within xs (accepted (digits_in A xs count)) h, ← same, b, l)
+      rw (bounded-within xs (accepted (digits_in A xs count)) h, ← same, done, l)

@@ -5,7 +5,7 @@ use mathlib.Core.List.{List}
 use lib.ListN.{length}
 use Rattle.std.specs.Prelude.{Result, IsErrAnd}
 use Rattle.std.proofs.lemmas.Result.{err_from_is_err_and}
-use Rattle.bcd.specs.Outcome.{Outcome, refused, after, mapped, deliver}
+use Rattle.bcd.specs.Outcome.{Outcome, refused, mapped, deliver}
 use Rattle.bcd.specs.Answers.{refusal_of, outcome_of}
 use Rattle.bcd.specs.declared.error.Refusal.{Refusal}
 use Rattle.bcd.proofs.Outcomes.{deliver-passed_on}
@@ -13,13 +13,6 @@ use Rattle.bcd.proofs.Outcomes.{deliver-passed_on}
 -- a refusal is the same, whatever was to come
 pub refusal_as : {A : Type 0} (B : Type 0) (x : Refusal) {n : ℕ} {vs : List ℕ} → refusal_of {A = A} x ≡ refused n vs → refusal_of {A = B} x ≡ refused n vs
 refusal_as B x {n} {vs} e = let a : (refusal_of {A = B} x) ≡ refused n vs = cc in a
-
--- the outcome that a refusal is an outcome of is refused
-pub refusal_after : {A B : Type 0} (x : Refusal) (o : Outcome A) (f : A → Outcome B) → refusal_of x ≡ o → refusal_of x ≡ after o f
-refusal_after x o f e = ap (λ o. after o f) e
-
-pub refusal_mapped : {A B : Type 0} (x : Refusal) (o : Outcome A) (f : A → B) → refusal_of x ≡ o → refusal_of x ≡ mapped f o
-refusal_mapped x o f e = ap (mapped f) e
 
 -- the exit of a `?`, which returns the callee's refusal
 module _ {A : Type 0} (result : Result A Refusal) (x : Refusal) (came : IsErrAnd result (λ y. y ≡ x)) where

@@ -1,16 +1,13 @@
 -- What tests say: two that pass, one of every element of a list, one of a number among others, and one that a choice goes by.
-use Prim.Native.Nat.{ℕ, zero, suc, ◌+◌, ◌≤◌, ◌<◌}
-use mathlib.Core.Path.{◌≡◌, refl, sym, ap}
-use mathlib.Core.Bool.{Bool, true, false, ◌&&◌, ◌||◌, cond, or-true, or-false, or_assoc}
-use Rattle.std.specs.Prelude.{nat_eq}
-use Rattle.std.specs.List.{list_any}
+use Prim.Native.Nat.{ℕ, suc, ◌≤◌, ◌<◌}
+use mathlib.Core.Path.{◌≡◌, refl, sym}
+use mathlib.Core.Bool.{Bool, true, false, ◌&&◌, ◌||◌, cond}
+use Rattle.std.proofs.lemmas.List.Folds.{list_any_at}
 use mathlib.Core.Logic.{◌↔◌, ◌⊎◌, inl, inr}
-use mathlib.Core.List.{List, [], ◌∷◌, ◌++◌}
+use mathlib.Core.List.{List, [], ◌∷◌}
 use native.Mathlib.Omega.{arith}
-use native.Mathlib.Numerals.{add-one}
 use lib.Dec.{leb, ltb, eqb}
-use lib.ListN.{length, get_or, take}
-use lib.Seq.{take-suc}
+use lib.ListN.{length, get_or}
 use borrow.Author.Tests.{eq-eqb, eqb-true, eqb-false, lt-ltb, ltb-true, le-leb, leb-true}
 use Rattle.bcd.specs.Outcome.{Outcome, accepted, pick, All, every, among}
 use Rattle.bcd.proofs.Below.{both}
@@ -47,16 +44,6 @@ pub every-same : {A : Type 0} {f g : A → Bool} → ((x : A) → f x ≡ g x) �
 every-same h [] = refl
 every-same h (x ∷ xs) = rw (h x, every-same h xs)
 
--- A number among two lists joined, and among the first i numbers and one more.
-pub among-append : (n : ℕ) (ms ks : List ℕ) → among n (ms ++ ks) ≡ (among n ms || among n ks)
-among-append n [] ks = refl
-among-append n (m ∷ ms) ks = rw (among-append n ms ks) (sym (or_assoc (eqb m n) (among n ms) (among n ks)))
-
-pub among_next : (n : ℕ) (ms : List ℕ) (i : ℕ) → i < length ms → among n (take (i + 1) ms) ≡ (among n (take i ms) || eqb (get_or ms i 0) n)
-among_next n ms i h =
-    rw (add-one, take-suc ms i 0 h, among-append n (take i ms) (get_or ms i 0 ∷ []))
-    (ap (λ b. among n (take i ms) || b) (or-false (eqb (get_or ms i 0) n)))
-
 -- A number is among others exactly where it stands at a place of them.
 among-to : (n : ℕ) (ms : List ℕ) → among n ms ≡ true → (k : ℕ) × (k < length ms) × (get_or ms k 0 ≡ n)
 among-to n [] e = let z : ◌≡◌ {A = ℕ} 0 1 = cc in absurd (omega arith)
@@ -72,18 +59,12 @@ among-to n (m ∷ ms) e = go (eqb m n) refl (among-to n ms) e
     go false t later e = let (k, h, at) = later e in (suc k, omega arith, at)
 
 among_from : (n : ℕ) (ms : List ℕ) (k : ℕ) → k < length ms → get_or ms k 0 ≡ n → among n ms ≡ true
-among_from n [] k h e = absurd (omega arith)
-among_from n (m ∷ ms) zero h e = rw (eq-eqb m n e)
-among_from n (m ∷ ms) (suc k) h e = rw (among_from n ms k (omega arith) e) (or-true (eqb m n))
+among_from n ms k h e = list_any_at (λ m. eqb m n) ms k 0 h (eq-eqb (get_or ms k 0) n e)
 
 pub among_iff : (n : ℕ) (ms : List ℕ) → (among n ms ≡ true) ↔ ((k : ℕ) × (k < length ms) × (get_or ms k 0 ≡ n))
 among_iff n ms = (among-to n ms, (λ (k, h, e). among_from n ms k h e))
 
--- The library's words for the same.
-pub any_is_among : (n : ℕ) (ms : List ℕ) → list_any (λ m. nat_eq m n) ms ≡ among n ms
-any_is_among n [] = refl
-any_is_among n (m ∷ ms) = ap (λ b. nat_eq m n || b) (any_is_among n ms)
-
+-- The library's word for the same.
 pub cond_is_pick : {A : Type 0} (b : Bool) (x y : A) → cond b x y ≡ pick b x y
 cond_is_pick true x y = refl
 cond_is_pick false x y = refl

@@ -73,6 +73,12 @@ extend_all {out} {p} {d} q a k b n f e =
 pub in_front : {out p d : List ℕ} (n : ℕ) → Begun out p d → length p ≡ n → take n d ≡ p
 in_front {out} {p} {d} n b e = rw b.holds (take_at p (drop (length p) out) n e)
 
+-- all of the buffer is written
+pub whole : {out p d : List ℕ} → Begun out p d → length p ≡ length out → d ≡ p
+whole {out} {p} {d} b e =
+    let short : length out ≤ length p = omega arith in
+    b.holds ∙ rw (drop_of_length-le out short, append-nil) refl
+
 -- what was begun with the octets is delivered
 pub delivered : {out os d : List ℕ} (n : ℕ) → Begun out os d → length os ≡ n → record { answer = accepted n; buffer = d } ≡ deliver (accepted os) out
 delivered {out} {os} {d} n b e = rw (b.holds, ← e) (deliver_fits os out b.fits)

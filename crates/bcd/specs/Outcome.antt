@@ -1,6 +1,6 @@
 -- What a call answers, in the terms of document 01, and what it leaves in a buffer that it was lent.
-use Rattle.std.specs.List.{list_all}
-use Rattle.std.specs.Prelude.{ℕ, ◌<◌, ◌-◌, ◌^◌, min, Bool, true, false, ◌||◌, List, [], ◌∷◌, ◌++◌, length, drop, leb, eqb}
+use Rattle.std.specs.List.{list_all, list_any}
+use Rattle.std.specs.Prelude.{ℕ, ◌<◌, ◌-◌, ◌^◌, min, Bool, true, false, List, [], ◌∷◌, ◌++◌, length, drop, leb, eqb}
 
 -- A value, or one of document 01's refusals ('Refused because of ..'): its number and the values returned with it.
 pub data Outcome (A : Type 0) : Type 0 where
@@ -43,8 +43,7 @@ every = list_all
 
 -- A number is among others, which may stand in any order and more than once.
 abbrev pub among : ℕ → List ℕ → Bool
-among n [] = false
-among n (m ∷ ms) = eqb m n || among n ms
+among n = list_any (λ m. eqb m n)
 
 -- An octet string: each element is below 256.
 abbrev pub Octets : List ℕ → Type 0

@@ -5,11 +5,11 @@ pub mod error;
 pub mod rewrite;
 
 ghost use Rattle.std.specs.Prelude.{◌≡◌, ◌*◌, ◌≤◌, length, get_or};
-ghost use Rattle.bcd.specs.Outcome.{accepted, mapped, delivered, deliver};
+ghost use Rattle.bcd.specs.Outcome.{mapped, delivered, deliver};
 ghost use Rattle.bcd.specs.Answers.{outcome_of};
 ghost use Rattle.bcd.specs.Digits.{halves, built_in, digits_in, read_digits, write_digits};
 ghost use Rattle.bcd.specs.Digits.{written, digits_record};
-ghost use Rattle.bcd.specs.Steps.{Packed, one_half};
+ghost use Rattle.bcd.specs.Steps.{one_half};
 
 use error::Refusal;
 
@@ -20,8 +20,8 @@ pub struct GtDigits {
     pub count: usize,
 }
 
-// The half octet that a digit is written as, if the octet is a digit. Comparisons, and no `match`, whose jump table takes five
-// times as long.
+// The half octet that a digit is written as, if the octet is a digit. Comparisons, and no `match`, whose jump table takes more
+// than twice as long.
 fn char_to_nibble(digit: u8) -> Option<u8>
     ensures { result ≡ built_in.half digit }
 {
@@ -79,26 +79,6 @@ pub fn gt_digits_length(digits: &[u8]) -> Result<usize, Refusal>
     Ok(n.div_ceil(2))
 }
 
-// Makes the octets of at most 255 digits, each straight from its two digits or from the odd last one. 9 at the first octet that
-// is no digit. The checker does not know an array's length behind a `&mut`, so it is required.
-fn pack_digits(digits: &[u8], packed: &mut [u8; 128]) -> Result<usize, Refusal>
-    requires digits_len_bound { length digits.now ≤ 255 }
-    requires packed_len { length packed.old ≡ 128 }
-    ensures { Packed built_in digits.now (outcome_of result) packed.new }
-{
-    let given = digits.len();
-    let whole = given / 2;
-    for k in 0..whole {
-        let low = nibble(digits[2 * k])?;
-        let high = nibble(digits[2 * k + 1])?;
-        packed[k] = high * 16 + low;
-    }
-    if 2 * whole < given {
-        packed[whole] = nibble(digits[2 * whole])?;
-    }
-    Ok(given.div_ceil(2))
-}
-
 // Writes digits, two to an octet. 11, then 9 at the first octet that is no digit, then 14.
 pub fn encode_gt_digits(digits: &[u8], out: &mut [u8]) -> Result<usize, Refusal>
     ensures { delivered (outcome_of result) out.new
@@ -109,7 +89,15 @@ pub fn encode_gt_digits(digits: &[u8], out: &mut [u8]) -> Result<usize, Refusal>
         return Err(Refusal::TooManyDigits(given));
     }
     let mut packed = [0u8; 128];
-    let n = pack_digits(digits, &mut packed)?;
+    let (pairs, odd) = digits.as_chunks::<2>();
+    for (k, &[low, high]) in pairs.iter().enumerate() {
+        let low = nibble(low)?;
+        packed[k] = nibble(high)? * 16 + low;
+    }
+    if let &[last] = odd {
+        packed[pairs.len()] = nibble(last)?;
+    }
+    let n = given.div_ceil(2);
     if out.len() < n {
         return Err(Refusal::OutputTooSmall(n));
     }
@@ -137,15 +125,13 @@ pub fn digit_in(bytes: &[u8], i: usize) -> u8
     nibble_to_char(byte / 16)
 }
 
-// Stores the first n digits.
-fn unpack_digits(bytes: &[u8], n: usize, out: &mut [u8])
-    requires n_bound { n ≤ 2 * length bytes.now }
-    requires n_in_bounds { n ≤ length out.old }
-    ensures { delivered (accepted n) out.new
-        ≡ deliver (accepted (digits_in built_in bytes.now n)) out.old }
+// Fills a slice with the first digits.
+fn unpack_digits(bytes: &[u8], out: &mut [u8])
+    requires { length out.old ≤ 2 * length bytes.now }
+    ensures { out.new ≡ digits_in built_in bytes.now (length out.old) }
 {
-    for i in 0..n {
-        out[i] = digit_in(bytes, i);
+    for (i, digit) in out.iter_mut().enumerate() {
+        *digit = digit_in(bytes, i);
     }
 }
 
@@ -159,6 +145,6 @@ pub fn decode_gt_digits(bytes: &[u8], num_digits: u8) -> Result<GtDigits, Refusa
     }
     let count = usize::from(num_digits).min(2 * given);
     let mut digits = [0u8; 255];
-    unpack_digits(bytes, count, &mut digits);
+    unpack_digits(bytes, &mut digits[..count]);
     Ok(GtDigits { digits, count })
 }

@@ -5,7 +5,7 @@ use mathlib.Core.Bool.{Bool, true, false, ◌&&◌, ◌||◌, and-true, or-false
 use mathlib.Core.Logic.{◌↔◌}
 use Rattle.std.specs.Prelude.{Option, None, Some}
 use Rattle.std.specs.Int.{w32, from_be_bytes}
-use Rattle.std.specs.List.{list_any, list_all}
+use Rattle.std.specs.List.{list_all}
 use Rattle.std.specs.Simd.{first_chunks}
 use mathlib.Core.List.{List, [], ◌∷◌}
 use native.Mathlib.Omega.{arith}
@@ -14,7 +14,7 @@ use lib.ListN.{length, drop}
 use borrow.Author.Tests.{eq-eqb, lt-ltb}
 use Rattle.bcd.specs.Outcome.{Outcome, accepted, refused, mapped, All, every, among}
 use Rattle.bcd.proofs.Outcomes.{accepted_inj, never}
-use Rattle.bcd.proofs.Tests.{any_is_among, agree, and_iff, eqb_iff, ltb_iff, every_iff, every-same, among_iff}
+use Rattle.bcd.proofs.Tests.{agree, and_iff, eqb_iff, ltb_iff, every_iff, every-same, among_iff}
 use Rattle.parameter.specs.declared.Place.{Place}
 use Rattle.parameter.specs.Parameter.{two_at, four_in}
 use Rattle.parameter.specs.Walk.{valued}
@@ -25,14 +25,14 @@ use Rattle.lookup.specs.Contexts.{contexts_of, all_in_set, all_in_set_at, contex
 
 -- Whether a group of four octets is a context in the set.
 abbrev pub known : (set : List ℕ) → List ℕ → Bool
-known set group = list_any (λ m. eqb m (from_be_bytes w32 group)) set
+known set group = among (from_be_bytes w32 group) set
 
 groups_all : (set : List ℕ) (k : ℕ) (v : List ℕ) → length v ≡ 4 * k → list_all (known set) (first_chunks 4 k v) ≡ every (λ n. among n set) (contexts_of v)
 unfolding contexts_of two_at
 groups_all set zero [] h = refl
 groups_all set (suc k) (a ∷ b ∷ c ∷ d ∷ v) h =
     let one : from_be_bytes w32 (a ∷ b ∷ c ∷ d ∷ []) ≡ four_in (a ∷ b ∷ c ∷ d ∷ []) = omega arith in
-    ap₂ ◌&&◌ (ap (λ n. list_any (λ m. eqb m n) set) one ∙ any_is_among (four_in (a ∷ b ∷ c ∷ d ∷ [])) set) (groups_all set k v (omega arith))
+    ap₂ ◌&&◌ (ap (λ n. among n set) one) (groups_all set k v (omega arith))
 groups_all set zero (a ∷ v) h = absurd (omega arith)
 groups_all set (suc k) (a ∷ b ∷ c ∷ []) h = absurd (omega arith)
 groups_all set (suc k) (a ∷ b ∷ []) h = absurd (omega arith)

@@ -1,6 +1,10 @@
 -- `bcd::decode_gt_digits` meets its contract.
+use Prim.Native.Nat.{ℕ, ◌≤◌}
+use mathlib.Core.Path.{◌≡◌, ap, ◌∙◌}
 use native.Mathlib.Omega.{arith}
-use Rattle.bcd.specs.Digits.{built_in}
+use lib.ListN.{length, take, replicate}
+use lib.Seq.{length-take-le}
+use Rattle.bcd.specs.Digits.{built_in, digits_in}
 use Rattle.bcd.proofs.Reading.{reading_refused, reading_done}
 use Rattle.bcd.proofs.decode_gt_digits.Goals as goal
 
@@ -9,7 +13,9 @@ returns-then-given-gt1048576 c = reading_refused built_in c.args.bytes.now c.arg
 
 pub returns : goal.returns
 returns c =
-    reading_done built_in c.args.bytes.now c.args.num_digits c.min-count.result c.unpack_digits.new.out c.if-given-gt1048576.false
+    let count = c.min-count.result in
+    let room : count ≤ 255 = omega (arith, c.from.ensures, c.min-count.ensures, c.ranges.num_digits.fits) in
+    let lent : length {A = ℕ} (take count (replicate 255 0)) ≡ count = length-take-le count (replicate 255 0) room in
+    reading_done built_in c.args.bytes.now c.args.num_digits count c.unpack_digits.new.out c.if-given-gt1048576.false
     (omega (arith, c.from.ensures, c.min-count.ensures))
-    (omega (arith, c.from.ensures, c.min-count.ensures, c.ranges.num_digits.fits))
-    c.unpack_digits.ensures
+    (c.unpack_digits.ensures ∙ ap (digits_in built_in c.args.bytes.now) lent)

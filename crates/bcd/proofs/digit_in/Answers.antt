@@ -3,7 +3,7 @@ use borrow.Author.Rules.{rules}
 use Prim.Native.Nat.{◌/◌, ◌%◌}
 use mathlib.Core.Path.{◌≡◌, ap, ◌∙◌}
 use lib.ListN.{get_or}
-use Rattle.bcd.specs.Digits.{halves, built_in}
+use Rattle.bcd.specs.Digits.{built_in}
 use Rattle.bcd.proofs.Reading.{half_even, half_odd}
 use Rattle.bcd.proofs.digit_in.Goals as goal
 

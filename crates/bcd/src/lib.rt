@@ -113,16 +113,11 @@ pub fn half_in(bytes: &[u8], i: usize) -> u8
     if i % 2 == 0 { byte % 16 } else { byte / 16 }
 }
 
-// The digit at place i; beyond the octets that of a half octet of 0. Not by `half_in`: both halves would be computed, which takes a
-// tenth longer.
+// The digit at place i; beyond the octets that of a half octet of 0.
 pub fn digit_in(bytes: &[u8], i: usize) -> u8
     ensures { result ≡ built_in.char (get_or (halves bytes.now) i 0) }
 {
-    let byte = bytes.get(i / 2).copied().unwrap_or(0);
-    if i % 2 == 0 {
-        return nibble_to_char(byte % 16);
-    }
-    nibble_to_char(byte / 16)
+    nibble_to_char(half_in(bytes, i))
 }
 
 // Fills a slice with the first digits.

@@ -1,13 +1,13 @@
 // An address value interpreted by one walk: the parts that are written, and how many octets they are.
-ghost use Rattle.std.specs.Prelude.{◌≡◌, ◌≤◌, length};
-ghost use Rattle.bcd.specs.Outcome.{pick, mapped, each, most};
+ghost use Rattle.std.specs.Prelude.{◌≡◌, ◌≤◌, length, option_map, Ok};
+ghost use Rattle.bcd.specs.Outcome.{accepted, pick, mapped, each, most};
 ghost use Rattle.bcd.specs.Answers.{numbered, outcome_of};
 ghost use Rattle.bcd.specs.Digits.{built_in, write_digits};
-ghost use Rattle.parameter.specs.Parameter.{run_length};
+ghost use Rattle.parameter.specs.Parameter.{four, run_length};
 ghost use Rattle.address.specs.Address.{title_at, title, present, sub_param};
 ghost use Rattle.address.specs.Parts.{interpreted};
-ghost use Rattle.address.specs.Steps.Kept.{short_numbers, kept_title};
-ghost use Rattle.address.specs.Steps.Plan.{HeldIn, Read, digits_by, PlanOf};
+ghost use Rattle.address.specs.Steps.Kept.{short_numbers, kept_title, kept_code, kept_sub};
+ghost use Rattle.address.specs.Steps.Plan.{digits_by, PlanOf};
 
 use crate::RoutingIndicator;
 use crate::parts::{Parts, survey};
@@ -40,34 +40,101 @@ fn too_short(short: Place) -> Refusal
     }
 }
 
-// How many octets the digits of a title, given by its value, are written as. 9, if they are checked.
-fn digits_length(digits: Digits, value: &[u8]) -> Result<usize, Refusal>
-    requires in_bounds { 8 ≤ length value.now }
-    requires value_len_bound { length value.now ≤ most }
-    ensures { outcome_of result
-        ≡ mapped length (write_digits (digits_by digits) (title_at built_in value.now).digits) }
-{
-    match digits {
-        Digits::Checked => bcd::rewrite::rewritten_digits_length(&value[8..], value[4]),
-        Digits::AsRead => {
-            let there = usize::from(value[4]).min(2 * (value.len() - 8));
-            Ok(there.div_ceil(2))
+// The value of a title's sub-parameter that stands in an address: eight octets or more.
+#[derive(Clone, Copy)]
+pub struct TitleValue<'a> {
+    octets: &'a [u8],
+    ghost long: { 8 ≤ length octets.now },
+    ghost within: { length octets.now ≤ most },
+}
+
+impl<'a> TitleValue<'a> {
+    // Its octets: eight in front, and the digits.
+    pub fn octets(self) -> &'a [u8]
+        ensures value { result.now ≡ self.entry.octets.now }
+        ensures long { 8 ≤ length result.now }
+        ensures within { length result.now ≤ most }
+    {
+        self.octets
+    }
+
+    // How many octets its digits are written as. 9, if they are checked.
+    fn digits_length(self, digits: Digits) -> Result<usize, Refusal>
+        ensures { outcome_of result
+            ≡ mapped length (write_digits (digits_by digits) (title_at built_in self.entry.octets.now).digits) }
+    {
+        let octets = self.octets;
+        match digits {
+            Digits::Checked => bcd::rewrite::rewritten_digits_length(&octets[8..], octets[4]),
+            Digits::AsRead => {
+                let there = usize::from(octets[4]).min(2 * (octets.len() - 8));
+                Ok(there.div_ceil(2))
+            }
         }
     }
 }
 
-// What the title takes on the wire, if there is one. 9, if its digits are checked.
-fn title_length(digits: Digits, value: &[u8], kept: Option<Place>) -> Result<usize, Refusal>
-    requires held_in { HeldIn value.now 8 kept }
-    requires value_len_bound { length value.now ≤ most }
-    ensures { outcome_of result
-        ≡ mapped run_length (each (sub_param (digits_by digits)) (present title (kept_title built_in value.now kept))) }
-{
-    let Some(place) = kept else {
-        return Ok(0);
-    };
-    let octets = digits_length(digits, place.value(value))?;
-    Ok((12 + octets).next_multiple_of(4))
+// An address value that reads without refusal, with its parts: the last of each kind, and how many others.
+#[derive(Clone, Copy)]
+pub struct Interpreted<'a> {
+    pub value: &'a [u8],
+    pub parts: Parts,
+    ghost read: { accepted parts ≡ interpreted value.now },
+}
+
+impl<'a> Interpreted<'a> {
+    // The title, if there is one.
+    pub fn title(&self) -> Option<TitleValue<'a>>
+        ensures { option_map (λ (t : TitleValue). title_at built_in t.octets.now) result ≡ kept_title built_in self.now.value.now self.now.parts.title }
+    {
+        let place = self.parts.title?;
+        Some(TitleValue {
+            octets: place.value(self.value),
+        })
+    }
+
+    // The point code's four octets, if there is one.
+    pub fn code(&self) -> Option<[u8; 4]>
+        ensures { result ≡ option_map four (kept_code self.now.value.now self.now.parts.code) }
+    {
+        self.parts.code?.value(self.value).first_chunk().copied()
+    }
+
+    // The SSN, if there is one.
+    pub fn ssn(&self) -> Option<u8>
+        ensures { result ≡ kept_sub self.now.value.now self.now.parts.ssn }
+    {
+        let place = self.parts.ssn?;
+        Some(self.value[place.start + 3])
+    }
+
+    // What the title takes on the wire, if there is one. 9, if its digits are checked.
+    fn title_length(&self, digits: Digits) -> Result<usize, Refusal>
+        ensures { outcome_of result
+            ≡ mapped run_length
+            (each (sub_param (digits_by digits)) (present title (kept_title built_in self.now.value.now self.now.parts.title))) }
+    {
+        let Some(title) = self.title() else {
+            return Ok(0);
+        };
+        let octets = title.digits_length(digits)?;
+        Ok((12 + octets).next_multiple_of(4))
+    }
+
+    // How many octets it is written as. 9, if the digits are checked; then 10.
+    pub(crate) fn measure(&self, digits: Digits, tag: u16) -> Result<usize, Refusal>
+        ensures { PlanOf (digits_by digits) tag self.now.value.now self.now.parts result }
+    {
+        let length = 4
+            + self.title_length(digits)?
+            + four_length(self.parts.code.is_some())
+            + four_length(self.parts.ssn.is_some())
+            + self.parts.other_length;
+        if 65531 < length {
+            return Err(Refusal::ValueTooLong { tag, length });
+        }
+        Ok(length)
+    }
 }
 
 // What a point code or an SSN takes on the wire, if it is there.
@@ -78,9 +145,10 @@ pub(crate) fn four_length(there: bool) -> usize
     if there { 8 } else { 0 }
 }
 
-// The parts of an address value. 12, 1, 8, 5 or 6 of the walk, then each sub-parameter's 1 or 6.
-pub fn interpret(value: &[u8]) -> Result<Parts, Refusal>
-    ensures { outcome_of result ≡ interpreted value.now }
+// Interprets an address value. 12, 1, 8, 5 or 6 of the walk, then each sub-parameter's 1 or 6.
+pub fn interpret(value: &[u8]) -> Result<Interpreted<'_>, Refusal>
+    ensures parts { mapped (λ (i : Interpreted). i.parts) (outcome_of result) ≡ interpreted value.entry.now }
+    ensures value { (i : Interpreted) → result ≡ Ok i → i.value.now ≡ value.entry.now }
 {
     let n = value.len();
     if 1048576 < n {
@@ -97,26 +165,5 @@ pub fn interpret(value: &[u8]) -> Result<Parts, Refusal>
     if let Some(short) = parts.short {
         return Err(too_short(short));
     }
-    Ok(parts)
-}
-
-// How many octets an address value that was read is written as. 9, if the digits are checked; then 10.
-pub(crate) fn measure(
-    digits: Digits,
-    tag: u16,
-    value: &[u8],
-    parts: &Parts,
-) -> Result<usize, Refusal>
-    requires { Read value.now parts.now }
-    ensures { PlanOf (digits_by digits) tag value.now parts.now result }
-{
-    let length = 4
-        + title_length(digits, value, parts.title)?
-        + four_length(parts.code.is_some())
-        + four_length(parts.ssn.is_some())
-        + parts.other_length;
-    if 65531 < length {
-        return Err(Refusal::ValueTooLong { tag, length });
-    }
-    Ok(length)
+    Ok(Interpreted { value, parts })
 }

@@ -6,14 +6,14 @@ ghost use Rattle.bcd.specs.Answers.{outcome_of};
 ghost use Rattle.bcd.specs.Digits.{built_in};
 ghost use Rattle.parameter.specs.Parameter.{run_octets, most_value};
 ghost use Rattle.parameter.specs.Walk.{valued};
-ghost use Rattle.address.specs.Address.{title_at, title, code, sub, present, sub_param, read_address, write_address};
-ghost use Rattle.address.specs.Steps.Kept.{kept_title, kept_code, kept_sub};
+ghost use Rattle.address.specs.Address.{title_at, title, present, sub_param, read_address, write_address};
+ghost use Rattle.address.specs.Steps.Kept.{kept_title};
 ghost use Rattle.address.specs.Again.{with_unknown};
 ghost use Rattle.address.specs.Listing.{is_other, other_places};
-ghost use Rattle.address.specs.Steps.Plan.{HeldIn, Walked, digits_by, Plan, head_octets, others_octets};
+ghost use Rattle.address.specs.Steps.Plan.{digits_by, Plan, head_octets, others_octets};
 
-use crate::interpret::{Digits, interpret, measure};
-use crate::parts::Parts;
+use crate::encode::write_four;
+use crate::interpret::{Digits, Interpreted, TitleValue, interpret};
 use bcd::error::Refusal;
 use parameter::{Parameters, Place, tags};
 
@@ -22,8 +22,7 @@ pub fn rewritten_length(tag: u16, value: &[u8]) -> Result<usize, Refusal>
     ensures { outcome_of result
         ≡ mapped length (after (read_address built_in value.now) (write_address built_in tag)) }
 {
-    let parts = interpret(value)?;
-    measure(Digits::Checked, tag, value, &parts)
+    interpret(value)?.measure(Digits::Checked, tag)
 }
 
 // Clears the three reserved octets of the value of a parameter that was written.
@@ -46,11 +45,11 @@ fn clear_high(out: &mut [u8], i: usize)
 
 // Writes a title, given by its value, as one parameter: its octets as they are, but for the reserved ones, the count of
 // the digits that are there, and an odd last high half. 14.
-fn put_title(value: &[u8], out: &mut [u8]) -> Result<usize, Refusal>
-    requires { 8 ≤ length value.now }
+fn put_title(given: TitleValue<'_>, out: &mut [u8]) -> Result<usize, Refusal>
     ensures { delivered (outcome_of result) out.new
-        ≡ deliver (mapped run_octets (sub_param with_unknown (title (title_at built_in value.now)))) out.old }
+        ≡ deliver (mapped run_octets (sub_param with_unknown (title (title_at built_in given.entry.octets.now)))) out.old }
 {
+    let value = given.octets();
     let count = value[4];
     let digits = usize::from(count).min(2 * (value.len() - 8));
     let octets = digits.div_ceil(2);
@@ -61,54 +60,6 @@ fn put_title(value: &[u8], out: &mut [u8]) -> Result<usize, Refusal>
         clear_high(out, 11 + octets);
     }
     Ok(length)
-}
-
-// Writes the title, if there is one. 14.
-fn write_title(value: &[u8], kept: Option<Place>, out: &mut [u8]) -> Result<usize, Refusal>
-    requires { HeldIn value.now 8 kept }
-    ensures { delivered (outcome_of result) out.new
-        ≡ deliver
-        (mapped run_octets (each (sub_param with_unknown) (present title (kept_title built_in value.now kept))))
-        out.old }
-{
-    match kept {
-        None => Ok(0),
-        Some(place) => put_title(place.value(value), out),
-    }
-}
-
-// Writes the point code, if there is one. 14.
-fn write_code(value: &[u8], kept: Option<Place>, out: &mut [u8]) -> Result<usize, Refusal>
-    requires { HeldIn value.now 4 kept }
-    ensures { delivered (outcome_of result) out.new
-        ≡ deliver
-        (mapped run_octets (each (sub_param with_unknown) (present code (kept_code value.now kept))))
-        out.old }
-{
-    match kept {
-        None => Ok(0),
-        Some(place) => {
-            let octets = &value[place.start..place.start + 4];
-            parameter::encode(tags::POINT_CODE, octets, out)
-        }
-    }
-}
-
-// Writes the SSN, if there is one: three reserved octets, and the fourth. 14.
-fn write_ssn(value: &[u8], kept: Option<Place>, out: &mut [u8]) -> Result<usize, Refusal>
-    requires { HeldIn value.now 4 kept }
-    ensures { delivered (outcome_of result) out.new
-        ≡ deliver
-        (mapped run_octets (each (sub_param with_unknown) (present sub (kept_sub value.now kept))))
-        out.old }
-{
-    match kept {
-        None => Ok(0),
-        Some(place) => {
-            let octets = [0, 0, 0, value[place.start + 3]];
-            parameter::encode(tags::SUBSYSTEM_NUMBER, &octets, out)
-        }
-    }
 }
 
 // Whether a sub-parameter is no title, point code or SSN.
@@ -133,19 +84,6 @@ fn write_other(value: &[u8], place: Place, out: &mut [u8]) -> Result<usize, Refu
     parameter::encode(place.tag, place.value(value), out)
 }
 
-// Writes the other sub-parameters, in order, by a second walk.
-fn write_others(value: &[u8], parts: &Parts, out: &mut [u8]) -> Result<usize, Refusal>
-    requires walked { Walked value.now parts.now }
-    requires other_length_in_bounds { parts.now.other_length ≤ length out.old }
-    ensures { delivered (outcome_of result) out.new ≡ deliver (accepted (others_octets value.now)) out.old }
-{
-    let mut at = 0;
-    for place in Parameters::new(value, 4) {
-        at += write_other(value, place?, &mut out[at..])?;
-    }
-    Ok(at)
-}
-
 // Writes the routing indicator, and the three bits of the address indicator.
 fn write_head(value: &[u8], out: &mut [u8])
     requires in_bounds { 4 ≤ length value.now }
@@ -155,21 +93,49 @@ fn write_head(value: &[u8], out: &mut [u8])
     octets::copy(&[value[0], value[1], 0, value[3] % 8], out);
 }
 
-// Writes an address value that was planned.
-fn write(value: &[u8], parts: &Parts, total: usize, out: &mut [u8]) -> Result<usize, Refusal>
-    requires plan { Plan with_unknown value.now parts.now total }
-    requires total_in_bounds { total ≤ length out.old }
-    ensures { delivered (outcome_of result) out.new
-        ≡ deliver (after (read_address built_in value.now) (write_address with_unknown 0)) out.old }
-{
-    write_head(value, out);
-    let a = 4 + write_title(value, parts.title, &mut out[4..])?;
-    let b = a + write_code(value, parts.code, &mut out[a..])?;
-    let c = b + write_ssn(value, parts.ssn, &mut out[b..])?;
-    if 0 < parts.other_count {
-        write_others(value, parts, &mut out[c..])?;
+impl<'a> Interpreted<'a> {
+    // Writes the title, if there is one. 14.
+    fn write_title(&self, out: &mut [u8]) -> Result<usize, Refusal>
+        ensures { delivered (outcome_of result) out.new
+            ≡ deliver
+            (mapped run_octets (each (sub_param with_unknown) (present title (kept_title built_in self.now.value.now self.now.parts.title))))
+            out.old }
+    {
+        match self.title() {
+            None => Ok(0),
+            Some(title) => put_title(title, out),
+        }
     }
-    Ok(total)
+
+    // Writes the other sub-parameters, in order, by a second walk.
+    fn write_others(&self, out: &mut [u8]) -> Result<usize, Refusal>
+        requires { self.now.parts.other_length ≤ length out.old }
+        ensures { delivered (outcome_of result) out.new ≡ deliver (accepted (others_octets self.now.value.now)) out.old }
+    {
+        let mut at = 0;
+        for place in Parameters::new(self.value, 4) {
+            at += write_other(self.value, place?, &mut out[at..])?;
+        }
+        Ok(at)
+    }
+
+    // Writes it, as it was planned.
+    fn write(&self, total: usize, out: &mut [u8]) -> Result<usize, Refusal>
+        requires plan { Plan with_unknown self.now.value.now self.now.parts total }
+        requires total_in_bounds { total ≤ length out.old }
+        ensures { delivered (outcome_of result) out.new
+            ≡ deliver (after (read_address built_in self.now.value.now) (write_address with_unknown 0)) out.old }
+    {
+        write_head(self.value, out);
+        let a = 4 + self.write_title(&mut out[4..])?;
+        let b = a + write_four(tags::POINT_CODE, self.code(), &mut out[a..])?;
+        let ssn = self.ssn().map(|n| [0, 0, 0, n]);
+        let c = b + write_four(tags::SUBSYSTEM_NUMBER, ssn, &mut out[b..])?;
+        if 0 < self.parts.other_count {
+            self.write_others(&mut out[c..])?;
+        }
+        Ok(total)
+    }
 }
 
 // Reads an address value and writes it again. Reading's refusals; 9, if the digits are checked; then 10, then 14.
@@ -177,12 +143,12 @@ fn rewrite_by(digits: Digits, tag: u16, value: &[u8], out: &mut [u8]) -> Result<
     ensures { delivered (outcome_of result) out.new
         ≡ deliver (after (read_address built_in value.now) (write_address (digits_by digits) tag)) out.old }
 {
-    let parts = interpret(value)?;
-    let total = measure(digits, tag, value, &parts)?;
+    let address = interpret(value)?;
+    let total = address.measure(digits, tag)?;
     if out.len() < total {
         return Err(Refusal::OutputTooSmall(total));
     }
-    write(value, &parts, total, out)
+    address.write(total, out)
 }
 
 // Reads an address value and writes it again. Reading's refusals, then 9, then 10, then 14.

@@ -17,7 +17,7 @@ use Rattle.address.specs.declared.parts.Parts.{Parts}
 use Rattle.address.proofs.Planning.{sound, code-params, sub-params}
 use Rattle.address.proofs.Putting.{delivered_inv, delivered_never}
 use Rattle.address.proofs.Delivering.{Wrote, wrote, wrote_never, planned-pieces, codes, subs, others_room, planned-length, planned-done, planned_none}
-use Rattle.address.proofs.rewrite.write.Goals as goal
+use Rattle.address.proofs.interpret.Interpreted.write.Goals as goal
 
 abbrev titles : {v : List ℕ} {s : Parts} {total : ℕ} → Plan with_unknown v s total → List Param
 titles p = (planned-pieces p).titled

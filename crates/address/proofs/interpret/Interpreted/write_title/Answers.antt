@@ -8,7 +8,7 @@ use Rattle.parameter.specs.Parameter.{Param, run_octets}
 use Rattle.parameter.proofs.Records.{value-length}
 use Rattle.address.specs.Steps.Plan.{HeldIn}
 use Rattle.address.proofs.Putting.{none_delivered, title_known}
-use Rattle.address.proofs.rewrite.write_title.Goals as goal
+use Rattle.address.proofs.interpret.Interpreted.write_title.Goals as goal
 
 pub returns-in-None : goal.returns-in-None
 returns-in-None c = rw c.in-None.is (none_delivered c.args.out.now)

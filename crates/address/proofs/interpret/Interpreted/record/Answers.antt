@@ -13,7 +13,7 @@ use Rattle.parameter.specs.Parameter.{two_at}
 use Rattle.address.specs.Listing.{routing_named}
 use Rattle.address.proofs.Planning.{sound}
 use Rattle.address.proofs.AddressRecords.{routing_kept, record_made}
-use Rattle.address.proofs.decode.record_of.Goals as goal
+use Rattle.address.proofs.interpret.Interpreted.record.Goals as goal
 
 by_one : (n : ℕ) → n ≡ n / 1
 by_one n = omega arith

@@ -6,7 +6,7 @@ use Rattle.parameter.specs.Walk.{places}
 use Rattle.parameter.specs.declared.Parameters.{Parameters}
 use Rattle.parameter.proofs.Reaching.{walk_refused, reached_end, walk_step}
 use Rattle.address.proofs.Tabling.{Tabling, tabling_start, tabling_turn, tabling_next, tabled}
-use Rattle.address.proofs.decode.list_others.Goals as goal
+use Rattle.address.proofs.interpret.Interpreted.list_others.Goals as goal
 
 pub loop-place-init : goal.loop-place-init
 loop-place-init c =

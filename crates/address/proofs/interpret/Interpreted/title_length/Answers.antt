@@ -9,7 +9,7 @@ use Rattle.parameter.proofs.Records.{value-length}
 use Rattle.address.specs.Steps.Plan.{HeldIn, digits_by}
 use Rattle.address.proofs.Planning.{digits_few, kept_sized}
 use Rattle.address.proofs.Unknown.{alike}
-use Rattle.address.proofs.interpret.title_length.Goals as goal
+use Rattle.address.proofs.interpret.Interpreted.title_length.Goals as goal
 
 pub returns-in_default : goal.returns-in_default
 unfolding run_length

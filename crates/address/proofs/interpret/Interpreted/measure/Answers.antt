@@ -6,7 +6,7 @@ use Rattle.address.specs.Steps.Plan.{digits_by}
 use Rattle.address.proofs.Planning.{sound, title_few, others_small, mapped_refused}
 use Rattle.address.proofs.Unknown.{alike}
 use Rattle.address.proofs.Plans.{plan_unknown, plan_long, plan_made}
-use Rattle.address.proofs.interpret.measure.Goals as goal
+use Rattle.address.proofs.interpret.Interpreted.measure.Goals as goal
 
 pub title_length-requires-clause-held_in : goal.title_length-requires-clause-held_in
 title_length-requires-clause-held_in c = (sound c.requires.known c.requires.whole).title

@@ -6,7 +6,7 @@ use Rattle.std.specs.Prelude.{Option}
 use Rattle.bcd.specs.Outcome.{accepted, bounded}
 use Rattle.parameter.specs.Parameter.{number_in}
 use Rattle.address.proofs.AddressRecords.{number-known}
-use Rattle.address.proofs.decode.code_in.Goals as goal
+use Rattle.address.proofs.interpret.Interpreted.code.Goals as goal
 
 pub returns : goal.returns
 returns c =

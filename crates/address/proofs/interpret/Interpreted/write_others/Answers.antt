@@ -7,7 +7,7 @@ use Rattle.parameter.specs.Walk.{places}
 use Rattle.parameter.specs.declared.Parameters.{Parameters}
 use Rattle.parameter.proofs.Reaching.{walk_refused, reached_end, walk_step}
 use Rattle.address.proofs.Copying.{Copying, copying_start, other_small, copying_never, copying_next, copying_few, copied}
-use Rattle.address.proofs.rewrite.write_others.Goals as goal
+use Rattle.address.proofs.interpret.Interpreted.write_others.Goals as goal
 
 pub loop-place-init : goal.loop-place-init
 loop-place-init c =

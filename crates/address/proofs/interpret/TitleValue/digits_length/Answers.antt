@@ -7,7 +7,7 @@ use Rattle.bcd.specs.Outcome.{mapped}
 use Rattle.bcd.proofs.Outcomes.{octets-of}
 use Rattle.address.proofs.Planning.{read_part}
 use Rattle.address.proofs.Titling.{digits_count}
-use Rattle.address.proofs.interpret.digits_length.Goals as goal
+use Rattle.address.proofs.interpret.TitleValue.digits_length.Goals as goal
 
 pub returns-in-Checked : goal.returns-in-Checked
 returns-in-Checked c =

@@ -6,7 +6,7 @@ use Rattle.bcd.proofs.Outcomes.{accepted_inj, never}
 use Rattle.address.specs.Address.{read_title}
 use Rattle.address.specs.Titles.{record_of}
 use Rattle.address.proofs.AddressRecords.{title-known}
-use Rattle.address.proofs.decode.title_in.Goals as goal
+use Rattle.address.proofs.interpret.Interpreted.title_record.Goals as goal
 
 pub returns-in_err-title : goal.returns-in_err-title
 returns-in_err-title c =

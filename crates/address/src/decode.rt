@@ -39,7 +39,7 @@ impl<'a> Interpreted<'a> {
         let Some(title) = self.title() else {
             return Ok(None);
         };
-        Ok(Some(GlobalTitle::decode(title.octets())?))
+        Ok(Some(GlobalTitle::decode(title.octets)?))
     }
 
     // The record. The include bits are those of the address indicator, whether or not their parts are there.

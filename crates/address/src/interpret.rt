@@ -43,21 +43,12 @@ fn too_short(short: Place) -> Refusal
 // The value of a title's sub-parameter that stands in an address: eight octets or more.
 #[derive(Clone, Copy)]
 pub struct TitleValue<'a> {
-    octets: &'a [u8],
+    pub octets: &'a [u8],
     ghost long: { 8 ≤ length octets.now },
     ghost within: { length octets.now ≤ most },
 }
 
 impl<'a> TitleValue<'a> {
-    // Its octets: eight in front, and the digits.
-    pub fn octets(self) -> &'a [u8]
-        ensures value { result.now ≡ self.entry.octets.now }
-        ensures long { 8 ≤ length result.now }
-        ensures within { length result.now ≤ most }
-    {
-        self.octets
-    }
-
     // How many octets its digits are written as. 9, if they are checked.
     fn digits_length(self, digits: Digits) -> Result<usize, Refusal>
         ensures { outcome_of result

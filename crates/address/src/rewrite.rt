@@ -49,7 +49,7 @@ fn put_title(given: TitleValue<'_>, out: &mut [u8]) -> Result<usize, Refusal>
     ensures { delivered (outcome_of result) out.new
         ≡ deliver (mapped run_octets (sub_param with_unknown (title (title_at built_in given.entry.octets.now)))) out.old }
 {
-    let value = given.octets();
+    let value = given.octets;
     let count = value[4];
     let digits = usize::from(count).min(2 * (value.len() - 8));
     let octets = digits.div_ceil(2);

@@ -25,4 +25,5 @@ pub mod GivenParts
 pub mod Encoding
 pub mod TitleFirst
 pub mod TableBack
+pub mod Held
 pub mod Standing

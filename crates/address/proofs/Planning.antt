@@ -82,13 +82,12 @@ read_part v count h =
     ap (λ xs. after (read_digits built_in xs count) (write_digits built_in)) (whole_part 8 v)
     ∙ read-digits (drop 8 v) count (omega (arith, length-drop 8 v))
 
--- What a title that is kept takes, by its digits.
-pub kept_sized :
-    (A : Alphabet) (v : List ℕ) (p : Place) (o : Outcome ℕ)
-    → o ≡ mapped length (write_digits A (title_at built_in (valued v p).value).digits)
-    → mapped (λ n. padded_length (8 + n)) o ≡ mapped run_length (each (sub_param A) (present title (kept_title built_in v (Some p))))
-kept_sized A v p o e =
-    let t = title_at built_in (valued v p).value in
+-- What a title that is there takes, by its digits.
+pub title_takes :
+    (A : Alphabet) (t : Title) (o : Outcome ℕ)
+    → o ≡ mapped length (write_digits A t.digits)
+    → mapped (λ n. padded_length (8 + n)) o ≡ mapped run_length (each (sub_param A) (title t ∷ []))
+title_takes A t o e =
     ap (mapped (λ n. padded_length (8 + n))) e ∙ sym (title_sized A t) ∙ ap (mapped run_length) (sym (each_one (sub_param A) (title t)))
 
 -- It takes at most 140 octets.

@@ -1,5 +1,5 @@
 // An address value interpreted by one walk: the parts that are written, and how many octets they are.
-ghost use Rattle.std.specs.Prelude.{◌≡◌, ◌≤◌, length, option_map, Ok};
+ghost use Rattle.std.specs.Prelude.{◌≡◌, ◌≤◌, ℕ, ◌<◌, length, get_or, option_map, Ok};
 ghost use Rattle.bcd.specs.Outcome.{accepted, pick, mapped, each, most};
 ghost use Rattle.bcd.specs.Answers.{numbered, outcome_of};
 ghost use Rattle.bcd.specs.Digits.{built_in, write_digits};
@@ -46,6 +46,7 @@ pub struct TitleValue<'a> {
     pub octets: &'a [u8],
     ghost long: { 8 ≤ length octets.now },
     ghost within: { length octets.now ≤ most },
+    ghost fits: { (i : ℕ) → get_or octets.now i 0 < 256 },
 }
 
 impl<'a> TitleValue<'a> {
@@ -70,6 +71,9 @@ impl<'a> TitleValue<'a> {
 pub struct Interpreted<'a> {
     pub value: &'a [u8],
     pub parts: Parts,
+    ghost long: { 4 ≤ length value.now },
+    ghost within: { length value.now ≤ most },
+    ghost fits: { (i : ℕ) → get_or value.now i 0 < 256 },
     ghost read: { accepted parts ≡ interpreted value.now },
 }
 

@@ -4,6 +4,7 @@ use Prim.Native.Nat.{ℕ, ◌≤◌}
 use native.Mathlib.Omega.{arith}
 use mathlib.Core.List.{List}
 use lib.ListN.{length}
+use Rattle.std.specs.Prelude.{Option, None}
 use Rattle.bcd.specs.Outcome.{refused, accepted, bounded, mapped, Octets, most}
 use Rattle.bcd.specs.Digits.{built_in}
 use Rattle.bcd.proofs.Outcomes.{octets-of, bounded-within}
@@ -11,9 +12,10 @@ use Rattle.bcd.proofs.Results.{exit}
 use Rattle.parameter.specs.Parameter.{two_at}
 use Rattle.parameter.specs.Walk.{places}
 use Rattle.address.specs.Address.{routing_in}
-use Rattle.address.specs.Parts.{nothing, note_all}
+use Rattle.address.specs.Parts.{nothing, note_all, interpreted}
 use Rattle.address.specs.Steps.Plan.{Walked}
 use Rattle.address.specs.declared.parts.Parts.{Parts}
+use Rattle.address.specs.declared.interpret.Interpreted.{Interpreted}
 use Rattle.address.proofs.Interpreting.{read_beyond, read_few, read_unrouted, read_unwalked, routed}
 use Rattle.address.proofs.Interpreted.{read_short, read-interpreted, refused_interpreted}
 use Rattle.address.proofs.Planning.{mapped_refused, walked}
@@ -30,45 +32,68 @@ known :
     → Walked v s
 known v s o within long routing e = walked v s o within long (routed (two_at v 0) routing) (e ∙ bounded-within v _ within)
 
-pub returns-then-n-gt1048576 : goal.returns-then-n-gt1048576
-returns-then-n-gt1048576 c = let v = c.args.value.now in refused_interpreted v _ _ (read_beyond built_in v c.if-n-gt1048576.true)
+whole :
+    (v : List ℕ) (s : Parts) {i : ℕ}
+    → Octets v
+    → length v ≤ most
+    → 4 ≤ length v
+    → accepted i ≡ routing_in (two_at v 0)
+    → accepted s ≡ bounded v (mapped (note_all nothing) (places v 4))
+    → s.short ≡ None
+    → accepted s ≡ interpreted v
+whole v s o within long routing e none = read-interpreted (record { known = known v s o within long routing e; whole = none })
 
-pub returns-then-n-lt4 : goal.returns-then-n-lt4
-returns-then-n-lt4 c = let v = c.args.value.now in refused_interpreted v _ _ (read_few built_in v c.if-n-gt1048576.false c.if-n-lt4.true)
+pub returns-then-n-gt1048576-clause-parts : goal.returns-then-n-gt1048576-clause-parts
+returns-then-n-gt1048576-clause-parts c = let v = c.args.value.now in refused_interpreted v _ _ (read_beyond built_in v c.if-n-gt1048576.true)
 
-pub returns-in_err-from_u16 : goal.returns-in_err-from_u16
+pub returns-then-n-lt4-clause-parts : goal.returns-then-n-lt4-clause-parts
+returns-then-n-lt4-clause-parts c = let v = c.args.value.now in refused_interpreted v _ _ (read_few built_in v c.if-n-gt1048576.false c.if-n-lt4.true)
+
+pub returns-in_err-from_u16-clause-parts : goal.returns-in_err-from_u16-clause-parts
 unfolding two_at
-returns-in_err-from_u16 c =
+returns-in_err-from_u16-clause-parts c =
     let v = c.args.value.now in
     let routing : c.from_be_bytes.result ≡ two_at v 0 = omega (arith, c.from_be_bytes.ensures) in
-    exit c.from_residual.result _ c.from_residual.ensures.1
+    ap (mapped (λ (i : Interpreted). i.parts)) (exit c.from_residual.result _ c.from_residual.ensures.1)
     ∙ refused_interpreted v _ _ (read_unrouted built_in v c.if-n-gt1048576.false c.if-n-lt4.false _ _ (c.in_err-from_u16.ensures ∙ ap routing_in routing))
 
-pub returns-in_err-parts : goal.returns-in_err-parts
+pub returns-in_err-parts-clause-parts : goal.returns-in_err-parts-clause-parts
 unfolding two_at
-returns-in_err-parts c =
+returns-in_err-parts-clause-parts c =
     let v = c.args.value.now in
     let routing : c.from_be_bytes.result ≡ two_at v 0 = omega (arith, c.from_be_bytes.ensures) in
     let small = routed (two_at v 0) (c.in_ok-from_u16.ensures ∙ ap routing_in routing) in
-    exit c.from_residual-in_err-parts.result _ c.from_residual-in_err-parts.ensures.1
+    ap (mapped (λ (i : Interpreted). i.parts)) (exit c.from_residual-in_err-parts.result _ c.from_residual-in_err-parts.ensures.1)
     ∙ refused_interpreted v _ _
     (read_unwalked built_in v c.if-n-gt1048576.false c.if-n-lt4.false _ _ small
     (mapped_refused (note_all nothing) _ (c.in_err-parts.ensures ∙ bounded-within v _ c.if-n-gt1048576.false)))
 
-pub returns-in-Some : goal.returns-in-Some
+pub returns-in-Some-clause-parts : goal.returns-in-Some-clause-parts
 unfolding two_at
-returns-in-Some c =
+returns-in-Some-clause-parts c =
     let v = c.args.value.now in
     let routing : c.from_be_bytes.result ≡ two_at v 0 = omega (arith, c.from_be_bytes.ensures) in
     let k = known v c.in_ok-parts.parts (octets-of v (λ i. (c.type_inv.value i).fits)) c.if-n-gt1048576.false c.if-n-lt4.false
     (c.in_ok-from_u16.ensures ∙ ap routing_in routing) c.in_ok-parts.ensures in
     refused_interpreted v _ _ (read_short k c.in-Some.short c.in-Some.is ∙ ap (λ (n : ℕ × List ℕ). refused n.0 n.1) (sym c.too_short.ensures))
 
-pub returns : goal.returns
+pub invariant_of-result : goal.invariant_of-result
 unfolding two_at
-returns c =
+invariant_of-result c =
     let v = c.args.value.now in
     let routing : c.from_be_bytes.result ≡ two_at v 0 = omega (arith, c.from_be_bytes.ensures) in
-    let k = known v c.in_ok-parts.parts (octets-of v (λ i. (c.type_inv.value i).fits)) c.if-n-gt1048576.false c.if-n-lt4.false
-    (c.in_ok-from_u16.ensures ∙ ap routing_in routing) c.in_ok-parts.ensures in
-    read-interpreted (record { known = k; whole = c.in_default.is })
+    record {
+      long = c.if-n-lt4.false;
+      within = c.if-n-gt1048576.false;
+      fits = λ i. (c.type_inv.value i).fits;
+      read = whole v c.in_ok-parts.parts (octets-of v (λ i. (c.type_inv.value i).fits)) c.if-n-gt1048576.false c.if-n-lt4.false
+      (c.in_ok-from_u16.ensures ∙ ap routing_in routing) c.in_ok-parts.ensures c.in_default.is;
+    }
+
+pub returns-clause-parts : goal.returns-clause-parts
+unfolding two_at
+returns-clause-parts c =
+    let v = c.args.value.now in
+    let routing : c.from_be_bytes.result ≡ two_at v 0 = omega (arith, c.from_be_bytes.ensures) in
+    whole v c.in_ok-parts.parts (octets-of v (λ i. (c.type_inv.value i).fits)) c.if-n-gt1048576.false c.if-n-lt4.false
+    (c.in_ok-from_u16.ensures ∙ ap routing_in routing) c.in_ok-parts.ensures c.in_default.is

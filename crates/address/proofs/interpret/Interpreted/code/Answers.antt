@@ -1,14 +1,31 @@
--- `address::decode::code_in` meets its contract.
-use mathlib.Core.Path.{ap, ◌∙◌}
-use Prim.Native.Nat.{ℕ}
+-- `address::interpret::Interpreted::code` meets its contract: the first four octets are there.
+use denote.Ref.{Bor}
+use Prim.Native.Nat.{ℕ, ◌≤◌, ◌<◌}
+use mathlib.Core.Path.{◌≡◌, ap, ◌∙◌}
 use mathlib.Core.List.{List}
-use Rattle.std.specs.Prelude.{Option}
-use Rattle.bcd.specs.Outcome.{accepted, bounded}
-use Rattle.parameter.specs.Parameter.{number_in}
-use Rattle.address.proofs.AddressRecords.{number-known}
+use native.Mathlib.Omega.{arith}
+use lib.ListN.{length}
+use Rattle.std.specs.Prelude.{Option, None, Some, MatchOption}
+use Rattle.std.specs.Array.{IsFirstChunk}
+use Rattle.std.specs.Option.{option_copied}
+use Rattle.bcd.specs.Outcome.{Octets}
+use Rattle.parameter.specs.Parameter.{four, four_in}
+use Rattle.address.proofs.Held.{value-octets, sound-of, lies}
+use Rattle.address.proofs.Putting.{four_again}
 use Rattle.address.proofs.interpret.Interpreted.code.Goals as goal
+
+first_four :
+    (w : List ℕ) (first : Option (Bor (List ℕ)))
+    → 4 ≤ length w
+    → Octets w
+    → MatchOption first (length w < 4) (λ y. IsFirstChunk w y.now 4)
+    → option_copied first ≡ Some (four (four_in w))
+first_four w None long o h = absurd (omega arith)
+first_four w (Some y) long o h = ap Some (h.same ∙ four_again w long o)
 
 pub returns : goal.returns
 returns c =
-    let known = number-known c.args.value.now c.requires.value_len_bound c.in-Some.place (rw c.in-Some.is at c.requires.held_in) in
-    rw c.in-Some.is (c.as_u32.ensures ∙ ap (λ (w : List ℕ). bounded {A = Option ℕ} w (accepted (number_in w))) c.value.ensures ∙ known)
+    let i = c.args.self.now in
+    let p = c.in_ok-self.field-0 in
+    let l = lies i.value.now 4 i.parts.code p (sound-of i).code c.in_ok-self.was in
+    rw c.in_ok-self.was (c.copied.ensures ∙ first_four _ c.first_chunk.result l.enough (value-octets i p) (rw c.value.ensures at c.first_chunk.ensures.cases))

@@ -1,17 +1,18 @@
--- `address::decode::list_others` meets its contract: the loop has stored the others that the walk has come to.
+-- `address::interpret::Interpreted::list_others` meets its contract: the loop has stored the others that the walk has come to.
 use mathlib.Core.Path.{sym, ap, ◌∙◌, subst}
 use Prim.Native.Nat.{ℕ}
 use Rattle.bcd.proofs.Outcomes.{never, bounded-within}
 use Rattle.parameter.specs.Walk.{places}
 use Rattle.parameter.specs.declared.Parameters.{Parameters}
 use Rattle.parameter.proofs.Reaching.{walk_refused, reached_end, walk_step}
+use Rattle.address.proofs.Held.{read-of}
 use Rattle.address.proofs.Tabling.{Tabling, tabling_start, tabling_turn, tabling_next, tabled}
 use Rattle.address.proofs.interpret.Interpreted.list_others.Goals as goal
 
 pub loop-place-init : goal.loop-place-init
 loop-place-init c =
     let i = c.into_iter-place-iterator.ensures.into_iter_gives in
-    let v = c.args.value.now in
+    let v = c.args.self.now.value.now in
     let t = c.args.rows.now in (
       ap (λ (s : Parameters). s.bytes.now) i ∙ c.new-place-items.ensures.bytes,
       subst (λ (k : ℕ). Tabling v t t k 0) (sym (ap (λ (s : Parameters). s.at) i ∙ c.new-place-items.ensures.at)) (tabling_start v t),
@@ -22,30 +23,30 @@ pub returns-in_err-place : goal.returns-in_err-place
 returns-in_err-place c =
     let s = rw (c.in_err-place.was) at c.in-Some.ensures.steps in
     let y = c.loop-place.invariant in
-    let k = c.requires.read.known in
+    let k = (read-of c.args.self.now).known in
     let none = walk_refused y.1.reached _ _ (rw y.0 at s.1) in
-    absurd (never (sym none ∙ bounded-within c.args.value.now (places c.args.value.now 4) k.within ∙ k.walked))
+    absurd (never (sym none ∙ bounded-within c.args.self.now.value.now (places c.args.self.now.value.now 4) k.within ∙ k.walked))
 
 pub list_other-row-requires-clause-row_le_most : goal.list_other-row-requires-clause-row_le_most
 list_other-row-requires-clause-row_le_most c =
     let s = rw (c.in_ok-place.was) at c.in-Some.ensures.steps in
     let y = c.loop-place.invariant in
-    (tabling_turn y.1 c.requires.read.known c.requires.other_count_in_bounds _ _ (rw y.0 at s.1)).few
+    (tabling_turn y.1 (read-of c.args.self.now).known c.requires _ _ (rw y.0 at s.1)).few
 
 pub list_other-row-requires-clause-has_row : goal.list_other-row-requires-clause-has_row
 list_other-row-requires-clause-has_row c =
     let s = rw (c.in_ok-place.was) at c.in-Some.ensures.steps in
     let y = c.loop-place.invariant in
-    (tabling_turn y.1 c.requires.read.known c.requires.other_count_in_bounds _ _ (rw y.0 at s.1)).room
+    (tabling_turn y.1 (read-of c.args.self.now).known c.requires _ _ (rw y.0 at s.1)).room
 
 pub loop-place-preserved : goal.loop-place-preserved
 loop-place-preserved c =
     let s = rw (c.in_ok-place.was) at c.in-Some.ensures.steps in
     let y = c.loop-place.invariant in
     let e = c.list_other-row.ensures in
-    (s.0 ∙ y.0, tabling_next y.1 c.requires.read.known c.requires.other_count_in_bounds _ _ (rw y.0 at s.1) _ _ e.value e.rows_after)
+    (s.0 ∙ y.0, tabling_next y.1 (read-of c.args.self.now).known c.requires _ _ (rw y.0 at s.1) _ _ e.value e.rows_after)
 
 pub returns : goal.returns
 returns c =
     let y = c.loop-place.invariant in
-    tabled c.requires.read y.1 c.requires.other_count_in_bounds (reached_end y.1.reached (walk_step c.args.value.now _ (rw y.0 at c.in-None.ensures.steps.1)))
+    tabled (read-of c.args.self.now) y.1 c.requires (reached_end y.1.reached (walk_step c.args.self.now.value.now _ (rw y.0 at c.in-None.ensures.steps.1)))

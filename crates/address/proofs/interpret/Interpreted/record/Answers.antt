@@ -1,4 +1,4 @@
--- `address::decode::record_of` meets its contract.
+-- `address::interpret::Interpreted::record` meets its contract.
 use native.Mathlib.Omega.{arith}
 use Prim.Native.Nat.{ℕ, ◌/◌, ◌%◌, ◌≤◌}
 use mathlib.Core.Path.{◌≡◌, refl, ap, ◌∙◌}
@@ -11,7 +11,7 @@ use Rattle.bcd.specs.Outcome.{accepted, demand}
 use Rattle.bcd.proofs.Outcomes.{accepted_inj, never}
 use Rattle.parameter.specs.Parameter.{two_at}
 use Rattle.address.specs.Listing.{routing_named}
-use Rattle.address.proofs.Planning.{sound}
+use Rattle.address.proofs.Held.{read-of}
 use Rattle.address.proofs.AddressRecords.{routing_kept, record_made}
 use Rattle.address.proofs.interpret.Interpreted.record.Goals as goal
 
@@ -22,25 +22,17 @@ pub returns-in_err-from_u16 : goal.returns-in_err-from_u16
 unfolding two_at
 returns-in_err-from_u16 c =
     let n = c.from_be_bytes-routing.result in
-    let small : n ≤ 4 = omega (arith, c.from_be_bytes-routing.ensures, c.requires.known.routing) in
+    let small : n ≤ 4 = omega (arith, c.from_be_bytes-routing.ensures, (read-of c.args.self.now).known.routing) in
     absurd (never (c.in_err-from_u16.ensures ∙ ap (λ (b : Bool). demand b 8 (n ∷ []) (accepted n)) (le-leb n 4 small)))
-
-pub title_in-requires-clause-held_in : goal.title_in-requires-clause-held_in
-title_in-requires-clause-held_in c = (sound c.requires.known c.requires.whole).title
-
-pub code_in-requires-clause-held_in : goal.code_in-requires-clause-held_in
-code_in-requires-clause-held_in c = (sound c.requires.known c.requires.whole).code
-
-pub ssn_in-requires : goal.ssn_in-requires
-ssn_in-requires c = (sound c.requires.known c.requires.whole).ssn
 
 pub returns : goal.returns
 unfolding two_at
 returns c =
-    let v = c.args.value.now in
+    let zz : ℕ = c.map.ensures in
+    let v = c.args.self.now.value.now in
     let n = c.from_be_bytes-routing.result in
     let routed : n ≡ two_at v 0 = omega (arith, c.from_be_bytes-routing.ensures) in
-    let small : n ≤ 4 = omega (arith, routed, c.requires.known.routing) in
+    let small : n ≤ 4 = omega (arith, routed, (read-of c.args.self.now).known.routing) in
     let routing = routing_kept _ _ c.in_ok-from_u16.ensures small ∙ ap routing_named routed in
-    record_made c.requires _ _ _ _ _ _ _ routing refl refl (ap (λ (n : ℕ). eqb (n % 2) 1) (by_one (get_or v 3 0)))
-    (accepted_inj c.in_ok-title_in.ensures) (accepted_inj c.in_ok-code_in.ensures) c.ssn_in.ensures
+    record_made (read-of c.args.self.now) _ _ _ _ _ _ _ routing refl refl (ap (λ (n : ℕ). eqb (n % 2) 1) (by_one (get_or v 3 0)))
+    (accepted_inj c.in_ok-title_record.ensures) ? c.ssn.ensures

@@ -1,4 +1,4 @@
--- `address::rewrite::write` meets its contract: the buffer after each part.
+-- `address::interpret::Interpreted::write` meets its contract: the buffer after each part.
 use Prim.Native.Nat.{ℕ, ◌+◌, ◌-◌, ◌≤◌}
 use mathlib.Core.Path.{◌≡◌, refl}
 use mathlib.Core.List.{List, ◌++◌}
@@ -58,10 +58,6 @@ module _ {v out : List ℕ} {s : Parts} {total : ℕ} (p : Plan with_unknown v s
   subbed {d} {last} {n} {written} {m} {put} {k} t y e =
       wrote (4 + n + m) y.begun y.place _ (subs p) (sub-params with_unknown (kept_sub v s.ssn)) (omega (arith, planned-length p, room, t.count, y.count)) k put e
 
-pub write_title-requires : goal.write_title-requires
-write_title-requires c =
-    (sound c.requires.plan.read.known c.requires.plan.read.whole).title
-
 pub returns-in_err-a : goal.returns-in_err-a
 returns-in_err-a c =
     let p = c.requires.plan in
@@ -73,27 +69,23 @@ overflow_add-a c =
     let t = titled p c.requires.total_in_bounds c.write_head.ensures c.in_ok-a.ensures in
     omega (arith, t.count, planned-length p, p.fits)
 
-pub slice_bounds-write_code-count : goal.slice_bounds-write_code-count
-slice_bounds-write_code-count c =
+pub slice_bounds-write_four-count : goal.slice_bounds-write_four-count
+slice_bounds-write_four-count c =
     let p = c.requires.plan in
     let t = titled p c.requires.total_in_bounds c.write_head.ensures c.in_ok-a.ensures in
     omega (arith, t.begun.fits, t.begun.same, t.place)
 
-pub slice_bounds-write_code-start : goal.slice_bounds-write_code-start
-slice_bounds-write_code-start c =
+pub slice_bounds-write_four-start : goal.slice_bounds-write_four-start
+slice_bounds-write_four-start c =
     let p = c.requires.plan in
     let t = titled p c.requires.total_in_bounds c.write_head.ensures c.in_ok-a.ensures in
     omega (arith, t.begun.fits, t.begun.same, t.place)
-
-pub write_code-requires : goal.write_code-requires
-write_code-requires c =
-    (sound c.requires.plan.read.known c.requires.plan.read.whole).code
 
 pub returns-in_err-b : goal.returns-in_err-b
 returns-in_err-b c =
     let p = c.requires.plan in
     let t = titled p c.requires.total_in_bounds c.write_head.ensures c.in_ok-a.ensures in
-    wrote_never (4 + c.in_ok-a.field-0) t.begun t.place _ (codes p) (code-params with_unknown (kept_code c.args.value.now c.args.parts.now.code))
+    wrote_never (4 + c.in_ok-a.field-0) t.begun t.place _ (codes p) (code-params with_unknown (kept_code c.args.self.now.value.now c.args.self.now.parts.code))
     (omega (arith, planned-length p, c.requires.total_in_bounds, t.count)) c.in_err-b.ensures
 
 pub overflow_add-b : goal.overflow_add-b
@@ -117,16 +109,12 @@ slice_bounds-write_ssn-start c =
     let y = coded p c.requires.total_in_bounds t c.in_ok-b.ensures in
     omega (arith, y.begun.fits, y.begun.same, y.place)
 
-pub write_ssn-requires : goal.write_ssn-requires
-write_ssn-requires c =
-    (sound c.requires.plan.read.known c.requires.plan.read.whole).ssn
-
 pub returns-in_err-c : goal.returns-in_err-c
 returns-in_err-c c =
     let p = c.requires.plan in
     let t = titled p c.requires.total_in_bounds c.write_head.ensures c.in_ok-a.ensures in
     let y = coded p c.requires.total_in_bounds t c.in_ok-b.ensures in
-    wrote_never (4 + c.in_ok-a.field-0 + c.in_ok-b.field-0) y.begun y.place _ (subs p) (sub-params with_unknown (kept_sub c.args.value.now c.args.parts.now.ssn))
+    wrote_never (4 + c.in_ok-a.field-0 + c.in_ok-b.field-0) y.begun y.place _ (subs p) (sub-params with_unknown (kept_sub c.args.self.now.value.now c.args.self.now.parts.ssn))
     (omega (arith, planned-length p, c.requires.total_in_bounds, t.count, y.count)) c.in_err-c.ensures
 
 pub overflow_add-c : goal.overflow_add-c
@@ -168,7 +156,7 @@ returns-in_err-write_others c =
     let y = coded p c.requires.total_in_bounds t c.in_ok-b.ensures in
     let z = subbed p c.requires.total_in_bounds t y c.in_ok-c.ensures in
     let r = others_room p c.args.out.now _ _ z.begun (omega (arith, planned-length p, c.requires.total_in_bounds, t.count, y.count, z.count)) in
-    delivered_never (others_octets c.args.value.now) _ r.room c.in_err-write_others.ensures
+    delivered_never (others_octets c.args.self.now.value.now) _ r.room c.in_err-write_others.ensures
 
 pub returns-in_ok-write_others : goal.returns-in_ok-write_others
 returns-in_ok-write_others c =
@@ -177,7 +165,7 @@ returns-in_ok-write_others c =
     let y = coded p c.requires.total_in_bounds t c.in_ok-b.ensures in
     let z = subbed p c.requires.total_in_bounds t y c.in_ok-c.ensures in
     planned-done p c.args.out.now _ _ _ z.begun z.place (omega (arith, planned-length p, c.requires.total_in_bounds, t.count, y.count, z.count))
-    (delivered_inv (others_octets c.args.value.now) _ c.in_ok-write_others.ensures).holds
+    (delivered_inv (others_octets c.args.self.now.value.now) _ c.in_ok-write_others.ensures).holds
 
 pub returns-else-parts-gt0 : goal.returns-else-parts-gt0
 returns-else-parts-gt0 c =

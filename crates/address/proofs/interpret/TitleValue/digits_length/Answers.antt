@@ -11,11 +11,11 @@ use Rattle.address.proofs.interpret.TitleValue.digits_length.Goals as goal
 
 pub returns-in-Checked : goal.returns-in-Checked
 returns-in-Checked c =
-    let v = c.args.value.now in
-    rw (c.in-Checked.is) (c.rewritten_digits_length.ensures ∙ ap (mapped length) (read_part v (get_or v 4 0) c.requires.value_len_bound))
+    let v = c.args.self.octets.now in
+    rw (c.in-Checked.is) (c.rewritten_digits_length.ensures ∙ ap (mapped length) (read_part v (get_or v 4 0) c.args.self.within))
 
 pub returns-in-AsRead : goal.returns-in-AsRead
 returns-in-AsRead c =
-    let v = c.args.value.now in
+    let v = c.args.self.octets.now in
     let half : c.div_ceil.result ≡ (c.min-there.result + 1) / 2 = omega (arith, c.div_ceil.ensures) in
-    rw (c.in-AsRead.is, half) (digits_count v (octets-of v (λ i. (c.type_inv.value i).fits)) c.requires.in_bounds c.min-there.result (omega (arith, c.min-there.ensures, c.from.ensures)))
+    rw (c.in-AsRead.is, half) (digits_count v (octets-of v c.args.self.fits) c.args.self.long c.min-there.result (omega (arith, c.min-there.ensures, c.from.ensures)))

@@ -1,28 +1,24 @@
 -- An address value as the code holds it: it was read, and what it keeps lies inside it.
-use Prim.Native.Nat.{ℕ, ◌+◌, ◌≤◌, ◌<◌}
-use mathlib.Core.Path.{◌≡◌, refl, sym, ap, ◌∙◌}
-use Rattle.std.specs.Prelude.{Option, None, Some, option_map}
+use Prim.Native.Nat.{ℕ, ◌+◌, ◌*◌, ◌≤◌, ◌<◌}
+use mathlib.Core.Path.{◌≡◌, ap, ◌∙◌}
+use Rattle.std.specs.Prelude.{Option, None, Some, option_map, MatchOption, IsSomeAnd}
 use mathlib.Core.List.{List}
 use native.Mathlib.Omega.{arith}
-use lib.ListN.{length, get_or, take}
+use lib.ListN.{length, get_or}
 use borrow.Author.Tests.{le-leb}
-use Rattle.bcd.specs.Outcome.{accepted, Octets, most}
+use Rattle.bcd.specs.Outcome.{accepted, Octets}
 use Rattle.bcd.specs.Digits.{built_in}
 use Rattle.bcd.proofs.Outcomes.{bounded-within, octets-of, all_take, all_drop}
-use Rattle.parameter.specs.Parameter.{four, four_in}
+use Rattle.parameter.specs.Parameter.{four}
 use Rattle.parameter.specs.Walk.{valued}
 use Rattle.parameter.specs.declared.Place.{Place}
 use Rattle.parameter.proofs.Records.{value-length}
 use Rattle.address.specs.Address.{title_at, title_in, read_title}
 use Rattle.address.specs.declared.interpret.TitleValue.{TitleValue}
-use Rattle.address.specs.Steps.Kept.{kept_code, kept_sub}
 use Rattle.address.specs.Steps.Plan.{HeldIn, Read}
 use Rattle.address.specs.declared.interpret.Interpreted.{Interpreted}
 use Rattle.address.proofs.Interpreted.{interpreted-read}
-use Rattle.address.proofs.Keeping.{value_at}
 use Rattle.address.proofs.Planning.{Sound, sound}
-use Rattle.address.proofs.Putting.{four_again}
-use Rattle.address.proofs.AddressRecords.{sub-kept}
 
 pub octets-held : (i : Interpreted) → Octets i.value.now
 octets-held i = octets-of i.value.now i.fits
@@ -54,3 +50,17 @@ unfolding read_title title_in
 title_read t =
     let v = t.octets.now in
     bounded-within v (title_in built_in v) t.within ∙ rw (le-leb 8 (length v) t.long)
+
+-- What `map` of `u32::from_be_bytes` gives of the four octets of a number: the number again.
+pub of_octets :
+    {P : List ℕ → ℕ → Type 0} (o : Option ℕ) (octets : Option (List ℕ)) (n : Option ℕ)
+    → ((w : List ℕ) (r : ℕ) → P w r → r ≡ ((get_or w 0 0 * 256 + get_or w 1 0) * 256 + get_or w 2 0) * 256 + get_or w 3 0)
+    → octets ≡ option_map four o
+    → MatchOption octets (n ≡ None) (λ x. IsSomeAnd n (P x))
+    → n ≡ o
+of_octets None octets n told e h = rw e at h
+of_octets {P} (Some k) octets n told e h = go n (rw e at h)
+  where
+    go : (n : Option ℕ) → IsSomeAnd n (P (four k)) → n ≡ Some k
+    go None h = absurd h
+    go (Some r) h = let t = told (four k) r h in ap Some (omega arith)

@@ -1,4 +1,5 @@
--- The definitions, in the order to read them. `Steps` holds what only contracts of private functions cite.
+-- The definitions, in the order to read them. `Steps` holds what contracts of private functions and of
+-- `Interpreted` cite.
 pub mod Address
 pub mod Records
 pub mod Titles

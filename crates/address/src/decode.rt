@@ -58,7 +58,7 @@ impl<'a> Interpreted<'a> {
             include_pc,
             include_ssn,
             global_title: self.title_record()?,
-            point_code: self.code().map(|octets| u32::from_be_bytes(octets)),
+            point_code: self.code().map(u32::from_be_bytes),
             ssn: self.ssn(),
             other_count: self.parts.other_count,
         })

@@ -110,6 +110,14 @@ pub fn write_four(tag: u16, value: Option<[u8; 4]>, out: &mut [u8]) -> Result<us
     }
 }
 
+// The value of an SSN's sub-parameter: three reserved octets in front of it.
+pub fn ssn_octets(ssn: Option<u8>) -> Option<[u8; 4]>
+    ensures { result ≡ option_map sub_value ssn }
+{
+    let ssn = ssn?;
+    Some([0, 0, 0, ssn])
+}
+
 impl SuaAddress {
     // The value of the point code's sub-parameter, if it is there.
     fn code_octets(&self) -> Option<[u8; 4]>
@@ -117,14 +125,6 @@ impl SuaAddress {
     {
         let code = self.point_code?;
         Some(code.to_be_bytes())
-    }
-
-    // The value of the SSN's: three reserved octets in front of it.
-    fn ssn_octets(&self) -> Option<[u8; 4]>
-        ensures { result ≡ option_map sub_value self.now.ssn }
-    {
-        let ssn = self.ssn?;
-        Some([0, 0, 0, ssn])
     }
 
     // Writes the routing indicator and the address indicator.
@@ -169,7 +169,7 @@ impl SuaAddress {
         let a = 4 + self.write_title(&mut out[4..])?;
         self.write_head(out);
         let b = a + write_four(POINT_CODE, self.code_octets(), &mut out[a..])?;
-        let c = b + write_four(SUBSYSTEM_NUMBER, self.ssn_octets(), &mut out[b..])?;
+        let c = b + write_four(SUBSYSTEM_NUMBER, ssn_octets(self.ssn), &mut out[b..])?;
         others.encode_parameters(self.other_count, &mut out[c..])?;
         Ok(total)
     }

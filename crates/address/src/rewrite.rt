@@ -12,7 +12,7 @@ ghost use Rattle.address.specs.Again.{with_unknown};
 ghost use Rattle.address.specs.Listing.{is_other, other_places};
 ghost use Rattle.address.specs.Steps.Plan.{digits_by, Plan, head_octets, others_octets};
 
-use crate::encode::write_four;
+use crate::encode::{ssn_octets, write_four};
 use crate::interpret::{Digits, Interpreted, TitleValue, interpret};
 use bcd::error::Refusal;
 use parameter::{Parameters, Place, tags};
@@ -129,7 +129,7 @@ impl<'a> Interpreted<'a> {
         write_head(self.value, out);
         let a = 4 + self.write_title(&mut out[4..])?;
         let b = a + write_four(tags::POINT_CODE, self.code(), &mut out[a..])?;
-        let ssn = self.ssn().map(|n| [0, 0, 0, n]);
+        let ssn = ssn_octets(self.ssn());
         let c = b + write_four(tags::SUBSYSTEM_NUMBER, ssn, &mut out[b..])?;
         if 0 < self.parts.other_count {
             self.write_others(&mut out[c..])?;

@@ -4,7 +4,7 @@ use Prim.Native.Nat.{ℕ, ◌≤◌}
 use native.Mathlib.Omega.{arith}
 use mathlib.Core.List.{List}
 use lib.ListN.{length}
-use Rattle.std.specs.Prelude.{Option, None}
+use Rattle.std.specs.Prelude.{None}
 use Rattle.bcd.specs.Outcome.{refused, accepted, bounded, mapped, Octets, most}
 use Rattle.bcd.specs.Digits.{built_in}
 use Rattle.bcd.proofs.Outcomes.{octets-of, bounded-within}
@@ -87,7 +87,7 @@ invariant_of-result c =
       within = c.if-n-gt1048576.false;
       fits = λ i. (c.type_inv.value i).fits;
       read = whole v c.in_ok-parts.parts (octets-of v (λ i. (c.type_inv.value i).fits)) c.if-n-gt1048576.false c.if-n-lt4.false
-      (c.in_ok-from_u16.ensures ∙ ap routing_in routing) c.in_ok-parts.ensures c.in_default.is;
+          (c.in_ok-from_u16.ensures ∙ ap routing_in routing) c.in_ok-parts.ensures c.in_default.is;
     }
 
 pub returns-clause-parts : goal.returns-clause-parts

@@ -1,5 +1,6 @@
 -- `address::interpret::Interpreted::record` meets its contract.
 use native.Mathlib.Omega.{arith}
+use borrow.Author.Rules.{rules}
 use Prim.Native.Nat.{ℕ, ◌/◌, ◌%◌, ◌≤◌}
 use mathlib.Core.Path.{◌≡◌, refl, ap, ◌∙◌}
 use borrow.Author.Tests.{le-leb}
@@ -11,7 +12,7 @@ use Rattle.bcd.specs.Outcome.{accepted, demand}
 use Rattle.bcd.proofs.Outcomes.{accepted_inj, never}
 use Rattle.parameter.specs.Parameter.{two_at}
 use Rattle.address.specs.Listing.{routing_named}
-use Rattle.address.proofs.Held.{read-of}
+use Rattle.address.proofs.Held.{read-of, of_octets}
 use Rattle.address.proofs.AddressRecords.{routing_kept, record_made}
 use Rattle.address.proofs.interpret.Interpreted.record.Goals as goal
 
@@ -28,11 +29,10 @@ returns-in_err-from_u16 c =
 pub returns : goal.returns
 unfolding two_at
 returns c =
-    let zz : ℕ = c.map.ensures in
     let v = c.args.self.now.value.now in
     let n = c.from_be_bytes-routing.result in
     let routed : n ≡ two_at v 0 = omega (arith, c.from_be_bytes-routing.ensures) in
     let small : n ≤ 4 = omega (arith, routed, (read-of c.args.self.now).known.routing) in
     let routing = routing_kept _ _ c.in_ok-from_u16.ensures small ∙ ap routing_named routed in
     record_made (read-of c.args.self.now) _ _ _ _ _ _ _ routing refl refl (ap (λ (n : ℕ). eqb (n % 2) 1) (by_one (get_or v 3 0)))
-    (accepted_inj c.in_ok-title_record.ensures) ? c.ssn.ensures
+    (accepted_inj c.in_ok-title_record.ensures) (of_octets _ c.code.result c.map.result (λ w r p. search rules) c.code.ensures c.map.ensures.cases) c.ssn.ensures

@@ -1,5 +1,5 @@
 -- `address::interpret::Interpreted::title_record` meets its contract: the title's octets are read without refusal.
-use mathlib.Core.Path.{◌≡◌, sym, ap, ◌∙◌}
+use mathlib.Core.Path.{sym, ap, ◌∙◌}
 use Rattle.bcd.specs.Outcome.{mapped}
 use Rattle.bcd.proofs.Outcomes.{accepted_inj, never}
 use Rattle.address.specs.Titles.{record_of}

@@ -1,18 +1,16 @@
 -- The accessors: what was found, and what its value reads as.
 use Prim.Native.Nat.{ℕ, ◌+◌, ◌≤◌, ◌<◌}
-use mathlib.Core.Path.{◌≡◌, refl, sym, ap, ◌∙◌, subst}
+use mathlib.Core.Path.{◌≡◌, refl, sym, ap, subst}
 use mathlib.Core.Bool.{Bool, true, false}
 use Rattle.std.specs.Prelude.{Option, None, Some, option_map}
-use Rattle.std.specs.Int.{w32, from_be_bytes}
 use mathlib.Core.List.{List, [], ◌∷◌}
 use native.Mathlib.Omega.{arith}
 use lib.Dec.{leb, eqb}
 use lib.ListN.{length, take, drop}
-use borrow.Author.Tests.{leb-true}
 use Rattle.bcd.specs.Outcome.{Outcome, accepted, refused, pick, mapped, All, Octets}
 use Rattle.bcd.proofs.Outcomes.{accepted_inj, after_inv, all_take, all_drop}
 use Rattle.parameter.specs.declared.Place.{Place}
-use Rattle.parameter.specs.Parameter.{two_at, four_in}
+use Rattle.parameter.specs.Parameter.{four_in}
 use Rattle.parameter.specs.Walk.{valued}
 use Rattle.parameter.specs.Table.{Table, records, first_with, find_param}
 use Rattle.parameter.proofs.Records.{held}
@@ -37,29 +35,6 @@ find_inside values t count tag p e =
 -- The values' octets at a place are octets.
 pub value-octets : (values : List ℕ) (p : Place) → Octets values → Octets (valued values p).value
 value-octets values p o = all_take (λ (x : ℕ). x < 256) p.length (drop p.start values) (all_drop (λ (x : ℕ). x < 256) p.start values o)
-
--- The number of four octets, as the library reads it.
-four_read : (v : List ℕ) → 4 ≤ length v → from_be_bytes w32 (take 4 v) ≡ four_in v
-unfolding two_at
-four_read (a ∷ b ∷ c ∷ d ∷ v) h = omega arith
-four_read (a ∷ b ∷ c ∷ []) h = absurd (omega arith)
-four_read (a ∷ b ∷ []) h = absurd (omega arith)
-four_read (a ∷ []) h = absurd (omega arith)
-four_read [] h = absurd (omega arith)
-
-pub number_read :
-    (values : List ℕ) (found : Option Place) (o : Option (List ℕ))
-    → o ≡ read_at (of_four (take 4)) values found
-    → option_map (from_be_bytes w32) o ≡ read_at (of_four four_in) values found
-number_read values None o e = ap (option_map (from_be_bytes w32)) e
-number_read values (Some p) o e = ap (option_map (from_be_bytes w32)) e ∙ go (leb 4 (length (valued values p).value)) refl
-  where
-    go :
-        (b : Bool)
-        → leb 4 (length (valued values p).value) ≡ b
-        → option_map (from_be_bytes w32) (pick b (Some (take 4 (valued values p).value)) None) ≡ pick b (Some (four_in (valued values p).value)) None
-    go true h = ap Some (four_read (valued values p).value (leb-true 4 _ h))
-    go false h = refl
 
 -- The first parameter, read, by what was found.
 pub read_found :

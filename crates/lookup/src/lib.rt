@@ -34,6 +34,7 @@ fn four_at(values: &[u8], found: Option<Place>) -> Option<[u8; 4]>
 }
 
 // The same four octets as a number.
+#[tactic(auto, unfolding(parameter::specs::Parameter::two_at))]
 fn number_at(values: &[u8], found: Option<Place>) -> Option<u32>
     ensures { result ≡ read_at (of_four four_in) values.now found }
 {

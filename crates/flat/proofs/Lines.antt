@@ -1,5 +1,5 @@
 -- The laws of decimal digits and of words.
-use Prim.Native.Nat.{ℕ, zero, suc, ◌+◌, ◌-◌, ◌*◌, ◌/◌, ◌%◌, ◌≤◌, ◌<◌}
+use Prim.Native.Nat.{ℕ, zero, suc, ◌+◌, ◌-◌, ◌*◌, ◌/◌, ◌%◌, ◌^◌, ◌≤◌, ◌<◌}
 use mathlib.Core.Path.{◌≡◌, refl, sym, ap, ◌∙◌}
 use mathlib.Core.Bool.{Bool, true, false, ◌&&◌}
 use mathlib.Core.Logic.{⊎_elim}
@@ -10,6 +10,8 @@ use lib.ListN.{length, get_or, take, length-append}
 use lib.Seq.{take-suc, length-take-le}
 use lib.Dec.{ltb, eqb}
 use borrow.Author.Tests.{lt-ltb, le-ltb, eq-eqb, ne_eqb}
+use Rattle.std.specs.Fmt as Fmt
+use Rattle.std.proofs.lemmas.Fmt.{decimal_by_steps}
 use Rattle.bcd.specs.Outcome.{pick}
 use Rattle.bcd.proofs.Outcomes.{le_or_lt}
 use Rattle.flat.specs.Line.{digit, decimal_in, decimal, hex, space, words_from, words}
@@ -35,6 +37,16 @@ decimal_more n h =
 
 pub decimal_longer : (n : ℕ) → 10 ≤ n → length (decimal n) ≡ length (decimal (n / 10)) + 1
 decimal_longer n h = rw (decimal_more n h, length-append)
+
+-- it is what std's `{}` writes
+pub decimal_printed : (n : ℕ) → n < 2 ^ 64 → Fmt.decimal n ≡ decimal n
+decimal_printed =
+    decimal_by_steps (λ m ds. ds ≡ decimal m)
+    (λ m l. sym (decimal_one m l ∙ digit_plain m l))
+    (λ m ds h e. ap (λ (l : List ℕ). l ++ ((48 + m % 10) ∷ [])) e ∙ sym (decimal_more m h ∙ ap (λ (l : List ℕ). decimal (m / 10) ++ l) (digit_plain (m % 10) (omega arith))))
+  where
+    digit_plain : (d : ℕ) → d < 10 → digit d ∷ [] ≡ (48 + d) ∷ []
+    digit_plain d h = rw (lt-ltb d 10 h)
 
 -- how many digits there are at most, below a power of ten and for any number
 pub decimal-digits : (k n : ℕ) → length (decimal (n / 10)) ≤ k → length (decimal n) ≤ k + 1

@@ -23,10 +23,7 @@ impl<'a> Writer<'a> {
     fn decimal(&mut self, n: usize)
         ensures { Writes self.old (decimal n) self.new }
     {
-        if 9 < n {
-            self.decimal(n / 10);
-        }
-        self.put(&[digit((n % 10) as u8)]);
+        self.put(itoa::Buffer::new().format(n).as_bytes());
     }
 
     // Stores the space that stands before the octet at place i, if one does.

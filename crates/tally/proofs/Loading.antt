@@ -13,7 +13,7 @@ use Rattle.std.proofs.lemmas.List.{take_more_set, drop_more}
 use Rattle.bcd.proofs.Below.{both}
 use Rattle.tally.specs.Members.{between, every, members, distinct, valid_lengths, valid_members}
 use Rattle.tally.specs.Steps.Codes.{code, values, codes, unlike, Numbered}
-use Rattle.tally.proofs.Lists.{between_inv, every_take, every_drop, every_at, sum_cons}
+use Rattle.tally.proofs.Lists.{between_inv, every_take, every_drop, sum_cons}
 use Rattle.tally.proofs.Codes.{Kept, codes-distinct}
 
 pub members-length : (ds ns : List ℕ) → length (members ds ns) ≡ length ns
@@ -50,9 +50,6 @@ lengths_inv n ns e =
 pub lengths_few : (n : ℕ) (ns : List ℕ) → valid_lengths n ns ≡ true → length ns ≤ 64
 lengths_few n ns e = (lengths_inv n ns e).few
 
-pub lengths_short : (n : ℕ) (ns : List ℕ) (i : ℕ) → valid_lengths n ns ≡ true → i < length ns → get_or ns i 0 ≤ 15
-lengths_short n ns i e h = (between_inv 1 15 (get_or ns i 0) (every_at (between 1 15) ns i 0 (lengths_inv n ns e).short h)).1
-
 -- the numbers of the first i members are stored, and what is left of the characters and lengths gives the others
 pub record Stored (ds ns : List ℕ) (i : ℕ) (rest held : List ℕ) : Type 0 where
   pub told : take i held ++ codes (members rest (drop i ns)) ≡ codes (members ds ns)
@@ -60,13 +57,7 @@ pub record Stored (ds ns : List ℕ) (i : ℕ) (rest held : List ℕ) : Type 0 w
   pub decimal : every (between 0x30 0x39) rest ≡ true
   pub room : length held ≡ 64
 
-pub stored_none : (ds ns held : List ℕ) → length held ≡ 64 → valid_lengths (length ds) ns ≡ true → every (between 0x30 0x39) ds ≡ true → Stored ds ns 0 ds held
-stored_none ds ns held r v d = record { told = refl; fits = (lengths_inv (length ds) ns v).all; decimal = d; room = r }
-
 module _ {ds ns rest held : List ℕ} {i : ℕ} (s : Stored ds ns i rest held) where
-  pub stored_fits : i < length ns → get_or ns i 0 ≤ length rest
-  stored_fits h = omega (arith, s.fits, ap sum (drop_more ns i 0 h), sum_cons (get_or ns i 0) (drop (i + 1) ns))
-
   pub stored_next :
       (n : ℕ)
       → i < length ns

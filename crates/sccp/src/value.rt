@@ -5,26 +5,25 @@ ghost use Rattle.bcd.specs.Answers.{outcome_of};
 ghost use Rattle.bcd.specs.Digits.{built_in};
 ghost use Rattle.parameter.specs.Parameter.{four, run_octets};
 ghost use Rattle.address.specs.Address.{title_at, read_address, write_address};
-ghost use Rattle.address.specs.Steps.Kept.{kept_title, kept_code, kept_sub};
-ghost use Rattle.address.specs.Steps.Plan.{HeldIn, Read};
+ghost use Rattle.address.specs.Steps.Kept.{kept_title, kept_code};
 ghost use Rattle.sccp.specs.Sccp.{absent_or, title_converts, converts};
 ghost use Rattle.sccp.specs.Steps.{title_from, address_from, plain_parts, convertible};
 ghost use Rattle.sccp.specs.Steps.{title_param, param_length, ssn_value, head_from, value_length};
 
 use crate::common::{Common, Digits, Title};
 use address::encode::write_four;
-use address::interpret::interpret;
-use address::parts::Parts;
+use address::interpret::{Interpreted, TitleValue, interpret};
 use bcd::error::Refusal;
-use parameter::{Place, tags};
+use parameter::tags;
 
 // Whether an address is routed on title or on SSN and point code, its include bits say which parts are there, and there are no
 // other sub-parameters.
 #[tactic(auto, unfolding(parameter::specs::Parameter::two_at))]
-fn plain(value: &[u8], parts: Parts) -> bool
-    requires { 4 ≤ length value.now }
-    ensures { result ≡ plain_parts value.now parts }
+fn plain(address: Interpreted<'_>) -> bool
+    ensures { result ≡ plain_parts address.entry.value.now address.entry.parts }
 {
+    let value = address.value;
+    let parts = address.parts;
     let routing = u16::from_be_bytes([value[0], value[1]]);
     let bits = value[3];
     let title = parts.title.is_some();
@@ -37,11 +36,11 @@ fn plain(value: &[u8], parts: Parts) -> bool
         && parts.other_count == 0
 }
 
-// A title, given by its value: of indicator 4, with a plan of 4 bits, a nature of 7 and no digit `?`. 17.
-fn title_at(value: &[u8]) -> Result<Title<'_>, Refusal>
-    requires { 8 ≤ length value.now }
-    ensures { mapped title_from (outcome_of result) ≡ convertible title_converts (title_at built_in value.now) }
+// A title: of indicator 4, with a plan of 4 bits, a nature of 7 and no digit `?`. 17.
+fn title_at(title: TitleValue<'_>) -> Result<Title<'_>, Refusal>
+    ensures { mapped title_from (outcome_of result) ≡ convertible title_converts (title_at built_in title.entry.octets.now) }
 {
+    let value = title.octets;
     if value[3] != 4 || 15 < value[6] || 127 < value[7] {
         return Err(Refusal::UnconvertibleAddress);
     }
@@ -54,62 +53,23 @@ fn title_at(value: &[u8]) -> Result<Title<'_>, Refusal>
 }
 
 // The title, if there is one. 17.
-fn title_in(value: &[u8], place: Option<Place>) -> Result<Option<Title<'_>>, Refusal>
-    requires { HeldIn value.now 8 place }
+fn title_in(address: Interpreted<'_>) -> Result<Option<Title<'_>>, Refusal>
     ensures { mapped (option_map title_from) (outcome_of result)
-        ≡ convertible (absent_or title_converts) (kept_title built_in value.now place) }
+        ≡ convertible (absent_or title_converts) (kept_title built_in address.entry.value.now address.entry.parts.title) }
 {
-    let Some(place) = place else {
-        return Ok(None);
-    };
-    Ok(Some(title_at(place.value(value))?))
+    address.title().map(title_at).transpose()
 }
 
 // The point code, if there is one, of 14 bits. 17.
-#[tactic(auto, unfolding(parameter::specs::Parameter::two_at))]
-fn code_in(value: &[u8], place: Option<Place>) -> Result<Option<u16>, Refusal>
-    requires { HeldIn value.now 4 place }
+fn code_in(address: Interpreted<'_>) -> Result<Option<u16>, Refusal>
     ensures { outcome_of result
-        ≡ convertible (absent_or (λ n. leb n 16383)) (kept_code value.now place) }
+        ≡ convertible (absent_or (λ n. leb n 16383)) (kept_code address.entry.value.now address.entry.parts.code) }
 {
-    let Some(place) = place else {
-        return Ok(None);
-    };
-    let octets = place.value(value);
-    let code = u32::from_be_bytes([octets[0], octets[1], octets[2], octets[3]]);
-    if 16383 < code {
-        return Err(Refusal::UnconvertibleAddress);
+    match address.code().map(u32::from_be_bytes) {
+        None => Ok(None),
+        Some(code) if code <= 16383 => Ok(Some(code as u16)),
+        Some(_) => Err(Refusal::UnconvertibleAddress),
     }
-    Ok(Some(code as u16))
-}
-
-// The SSN, if there is one.
-fn ssn_in(value: &[u8], place: Option<Place>) -> Option<u8>
-    requires { HeldIn value.now 4 place }
-    ensures { result ≡ kept_sub value.now place }
-{
-    let place = place?;
-    Some(place.value(value)[3])
-}
-
-// What an address value that was read tells. 17.
-fn address_in(value: &[u8], parts: Parts) -> Result<Common<'_>, Refusal>
-    requires { Read value.now parts }
-    ensures { mapped address_from (outcome_of result)
-        ≡ after (read_address built_in value.now) (convertible converts) }
-{
-    if !plain(value, parts) {
-        return Err(Refusal::UnconvertibleAddress);
-    }
-    let title = title_in(value, parts.title)?;
-    let point_code = code_in(value, parts.code)?;
-    let ssn = ssn_in(value, parts.ssn);
-    Ok(Common {
-        on_title: value[1] == 1,
-        point_code,
-        ssn,
-        title,
-    })
 }
 
 // Reads an address value. Its reading's refusals, then 17.
@@ -117,7 +77,16 @@ pub(crate) fn read(value: &[u8]) -> Result<Common<'_>, Refusal>
     ensures { mapped address_from (outcome_of result)
         ≡ after (read_address built_in value.now) (convertible converts) }
 {
-    address_in(value, interpret(value)?)
+    let address = interpret(value)?;
+    if !plain(address) {
+        return Err(Refusal::UnconvertibleAddress);
+    }
+    Ok(Common {
+        on_title: value[1] == 1,
+        title: title_in(address)?,
+        point_code: code_in(address)?,
+        ssn: address.ssn(),
+    })
 }
 
 // Writes the title as one sub-parameter, if it is there: its value in place, and tag, length and padding round it.

@@ -5,6 +5,7 @@ ghost use Rattle.address.specs.Address.{title_at};
 ghost use Rattle.tally.specs.Members.{members, longest};
 ghost use Rattle.tally.specs.Steps.Codes.{code, Numbered};
 
+use address::interpret::TitleValue;
 use bcd::half_in;
 use std::marker::Model;
 
@@ -85,10 +86,9 @@ impl<'a> Members<'a> {
     }
 
     // The row of a title.
-    pub(crate) fn title_row(&self, title: &[u8]) -> usize
-        requires { 8 ≤ length title.now }
-        ensures { result ≡ longest self.now (title_at built_in title.now).digits }
+    pub(crate) fn title_row(&self, title: TitleValue<'_>) -> usize
+        ensures { result ≡ longest self.now (title_at built_in title.entry.octets.now).digits }
     {
-        self.longest(&title[8..], usize::from(title[4]))
+        self.longest(&title.octets[8..], usize::from(title.octets[4]))
     }
 }

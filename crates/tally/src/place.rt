@@ -48,9 +48,10 @@ impl Members<'_> {
         ensures { outcome_of result
             ≡ mapped (λ a. title_row self.now a.title) (read_address built_in value.now) }
     {
-        match interpret(value)?.title {
+        let address = interpret(value)?;
+        match address.title() {
             None => Ok(self.count()),
-            Some(title) => Ok(self.title_row(title.value(value))),
+            Some(title) => Ok(self.title_row(title)),
         }
     }
 

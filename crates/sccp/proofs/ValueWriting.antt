@@ -21,10 +21,10 @@ use Rattle.parameter.proofs.Encoding.{frame_known}
 use Rattle.parameter.proofs.InPlace.{framed-there}
 use Rattle.address.specs.Address as Sua
 use Rattle.address.specs.Address.{sub_param, write_title, write_address, pieces, sized}
-use Rattle.address.specs.Steps.GivenParts.{given_param}
+use Rattle.address.specs.Steps.GivenParts.{sub_value, given_param}
 use Rattle.address.proofs.Planning.{each_one, param_of, code_param, sub_one, map-some, four-length, parts-written}
 use Rattle.address.proofs.Delivering.{parts-length}
-use Rattle.sccp.specs.Steps.{title_from, address_from, packed, title_param, param_length, ssn_value, head_from, value_length}
+use Rattle.sccp.specs.Steps.{title_from, address_from, packed, title_param, param_length, head_from, value_length}
 use Rattle.sccp.specs.declared.common.Title.{Title}
 use Rattle.sccp.specs.declared.common.Common.{Common}
 use Rattle.sccp.proofs.Copying.{packed-length, digits_count, digits-written}
@@ -156,7 +156,7 @@ module _ (p : Common) where
   codes = given_param 0x8002 (option_map four p.point_code)
 
   abbrev pub subs : List Param
-  subs = given_param 0x8003 (option_map ssn_value p.ssn)
+  subs = given_param 0x8003 (option_map sub_value p.ssn)
 
   -- .. the front up to the title and up to the point code, and all of it.
   abbrev pub up_to_title : List ℕ
@@ -175,7 +175,7 @@ module _ (p : Common) where
   codes-known = given (0x8002) four p.point_code
 
   subs-known : subs ≡ param_of sub_one p.ssn
-  subs-known = given (0x8003) ssn_value p.ssn
+  subs-known = given (0x8003) sub_value p.ssn
 
   codes-size : run_length codes ≡ pick (is_some p.point_code) 8 0
   codes-size = ap run_length codes-known ∙ four-length code_param (λ n. refl) p.point_code
@@ -301,7 +301,7 @@ module _ (p : Common) (out : List ℕ) (room : value_length p ≤ length out) {f
               subs-size p,
             )
 
-        module _ {sub : Option (List ℕ)} (sub-is : sub ≡ option_map ssn_value p.ssn) where
+        module _ {sub : Option (List ℕ)} (sub-is : sub ≡ option_map sub_value p.ssn) where
           abbrev sub_lent : List ℕ
           sub_lent = mid_of (4 + a + b) (length third - (4 + a + b)) third
 

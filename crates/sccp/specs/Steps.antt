@@ -1,6 +1,6 @@
 -- Steps of the code between its public calls. No public contract of this crate cites these.
 use denote.Ref.{Bor}
-use Rattle.std.specs.Prelude.{ℕ, ◌+◌, ◌&&◌, Bool, List, [], ◌∷◌, ◌++◌, eqb, length, get_or, take}
+use Rattle.std.specs.Prelude.{ℕ, ◌+◌, ◌&&◌, Bool, List, [], ◌++◌, eqb, length, get_or, take}
 use Rattle.std.specs.Prelude.{Option, None, Some, option_map, is_some}
 use Rattle.bcd.specs.Outcome.{Outcome, accepted, pick, demand, each}
 use Rattle.bcd.specs.Digits.{halves, pack, built_in, digits_in}
@@ -65,10 +65,6 @@ title_param t = each (sub_param built_in) (present Sua.title (option_map title_f
 abbrev pub param_length : Option Title → ℕ
 param_length None = 0
 param_length (Some t) = padded_length (8 + length t.digits.octets.now)
-
--- The value of an SSN as a sub-parameter.
-abbrev pub ssn_value : ℕ → List ℕ
-ssn_value n = 0 ∷ 0 ∷ 0 ∷ n ∷ []
 
 -- The octets in front of the sub-parameters of an address value: routing indicator, address indicator; how many octets the whole
 -- takes.

@@ -5,24 +5,28 @@ use mathlib.Core.Bool.{Bool, true, false}
 use mathlib.Core.List.{List, [], ◌∷◌, ◌++◌, map, append_assoc, append-nil}
 use native.Mathlib.Omega.{arith}
 use lib.ListN.{length, get_or, drop, length-append, length-map, length-take, length-drop}
-use Rattle.std.specs.Prelude.{Option, None, Some}
-use Rattle.bcd.specs.Outcome.{Outcome, accepted, refused, pick, each, Octets, most}
+use Rattle.std.specs.Prelude.{Option, None, Some, option_map}
+use Rattle.std.proofs.Common.{Fits, w8}
+use Rattle.bcd.specs.Outcome.{Outcome, accepted, refused, pick, mapped, each, Octets, most}
 use Rattle.bcd.specs.Digits.{built_in, digits_in}
-use Rattle.bcd.proofs.Outcomes.{accepted_inj, after_inv, mapped_inv, each_inv, bounded-within, octets_at}
+use Rattle.bcd.proofs.Outcomes.{accepted_inj, after_inv, mapped_inv, each_inv, bounded-within, octets-of, octets_at}
 use Rattle.bcd.proofs.Reading.{digits-length}
 use Rattle.parameter.specs.declared.Place.{Place}
 use Rattle.parameter.specs.Parameter.{two, four, two_at}
 use Rattle.parameter.specs.Walk.{valued, places}
 use Rattle.parameter.proofs.Walking.{places_few}
-use Rattle.address.specs.Address.{address_in, read_address, address_with}
+use Rattle.address.specs.Address.{Title, title_at, address_in, read_address, address_with}
 use Rattle.address.specs.Steps.Kept.{kept_title, kept_code, kept_sub}
 use Rattle.address.specs.Listing.{other_places}
 use Rattle.address.specs.Steps.Plan.{Read, places_in}
+use Rattle.address.specs.Parts.{interpreted}
 use Rattle.address.specs.declared.parts.Parts.{Parts}
+use Rattle.address.specs.declared.interpret.Interpreted.{Interpreted}
+use Rattle.address.specs.declared.interpret.TitleValue.{TitleValue}
 use Rattle.address.proofs.Keeping.{piece_at}
 use Rattle.address.proofs.Interpreting.{title_holds, code_holds, sub_holds}
 use Rattle.address.proofs.Plans.{indicator_bits}
-use Rattle.address.proofs.Interpreted.{read_whole, accepted_read}
+use Rattle.address.proofs.Interpreted.{read_whole, interpreted-read, interpreted_refused, accepted_read}
 use Rattle.address.proofs.Others.{count_known, walk_few}
 use Rattle.form.specs.Form.{is_address}
 use Rattle.message.specs.Accessors.{moved}
@@ -32,6 +36,30 @@ use Rattle.flat.specs.Steps.Emitting.{Writes, Tried, listed, others_fields, part
 use Rattle.flat.proofs.Emission.{writes_more}
 use Rattle.flat.proofs.Describing.{value_octets}
 use Rattle.flat.proofs.OtherPlaces.{listed-length}
+
+-- an address value that was interpreted was read
+pub whole : (it : Interpreted) → ((i : ℕ) → Fits w8 (get_or it.value.now i 0)) → Read it.value.now it.parts
+whole it f = interpreted-read (octets-of it.value.now (λ i. (f i).fits)) it.read
+
+-- a part that is there, told by another
+marked_map : {X Y : Type 0} (f : Y → List ℕ) (g : X → Y) (o : Option X) → marked f (option_map g o) ≡ marked (λ x. f (g x)) o
+marked_map f g None = refl
+marked_map f g (Some x) = refl
+
+pub title_marked :
+    (o : Option TitleValue) (k : Option Title) {a b : Writer}
+    → option_map (λ (t : TitleValue). title_at built_in t.octets.now) o ≡ k
+    → Writes a (marked (λ (t : TitleValue). title_fields (title_at built_in t.octets.now)) o) b
+    → Writes a (marked title_fields k) b
+title_marked o k {a} {b} e x =
+    subst (λ (os : List ℕ). Writes a os b) (sym (marked_map title_fields (λ (t : TitleValue). title_at built_in t.octets.now) o) ∙ ap (marked title_fields) e) x
+
+pub code_marked :
+    (o : Option (List ℕ)) (k : Option ℕ) {a b : Writer}
+    → o ≡ option_map four k
+    → Writes a (marked (λ (os : List ℕ). os) o) b
+    → Writes a (marked four k) b
+code_marked o k {a} {b} e x = subst (λ (os : List ℕ). Writes a os b) (ap (marked (λ (os : List ℕ). os)) e ∙ marked_map (λ (os : List ℕ). os) four k) x
 
 -- what the parts of an address take
 pub title_small : (v : List ℕ) (k : Option Place) → Octets v → length (marked title_fields (kept_title built_in v k)) ≤ 262
@@ -116,25 +144,41 @@ account_refused base v n vs h e =
     let read : address_in built_in v ≡ refused n vs = sym (bounded-within v (address_in built_in v) h) ∙ e in
     rw read
 
+-- a value is no longer than its place says
+pub value_short : (xs : List ℕ) (p : Place) → length (valued xs p).value ≤ p.length
+value_short xs p = rw length-take (omega arith)
+
 -- the account of a parameter: its place, and an address
-module _ (xs : List ℕ) (p : Place) where
-  known : is_address p.tag ≡ true → (o : Outcome (List ℕ)) → address_account built_in p.start (valued xs p).value ≡ o → param_account built_in xs p ≡ Rattle.bcd.specs.Outcome.mapped (λ os. place_octets p ++ os) o
+module _ (xs : List ℕ) (p : Place) {a b : Writer} (x : Writes a (place_octets p) b) where
+  known : is_address p.tag ≡ true → (o : Outcome (List ℕ)) → address_account built_in p.start (valued xs p).value ≡ o → param_account built_in xs p ≡ mapped (λ os. place_octets p ++ os) o
   unfolding param_account
   known t o f = rw (t, f)
 
-  pub param_raw : {a b : Writer} → is_address p.tag ≡ false → Writes a (place_octets p) b → Tried a (param_account built_in xs p) (accepted (tt {0})) b
+  pub param_raw : is_address p.tag ≡ false → Tried a (param_account built_in xs p) (accepted (tt {0})) b
   unfolding param_account
-  param_raw {a} {b} t x = (place_octets p, rw (t, append-nil), x)
+  param_raw t = (place_octets p, rw (t, append-nil), x)
 
-  pub param_address :
-      {a b : Writer} (c : Writer)
+  pub param_read :
+      Octets xs
       → is_address p.tag ≡ true
-      → Writes a (place_octets p) b
-      → (o : Outcome (Unit {0}))
-      → Tried b (address_account built_in p.start (valued xs p).value) o c
-      → Tried a (param_account built_in xs p) o c
-  param_address c t x (accepted u) y = (place_octets p ++ y.0, known t _ y.1, writes_more x y.2)
-  param_address c t x (refused n vs) y = (known t _ y.0, y.1 ∙ x.lent)
+      → (it : Interpreted) {c : Writer}
+      → it.value.now ≡ (valued xs p).value
+      → Writes b (parts_fields p.start it.value.now it.parts) c
+      → Tried a (param_account built_in xs p) (accepted (tt {0})) c
+  param_read o t it {c} e y =
+      let v = (valued xs p).value in
+      let r : Read v it.parts = interpreted-read (value_octets xs p o) (rw e at it.read) in
+      (place_octets p ++ parts_fields p.start v it.parts, known t _ (account_read p.start r), writes_more x (rw e at y))
+
+  pub param_unread :
+      p.length ≤ most
+      → is_address p.tag ≡ true
+      → (n : ℕ) (vs : List ℕ)
+      → refused n vs ≡ interpreted (valued xs p).value
+      → Tried {Unit {0}} a (param_account built_in xs p) (refused n vs) b
+  param_unread h t n vs e =
+      let v = (valued xs p).value in
+      (known t _ (account_refused p.start v n vs (omega (arith, value_short xs p, h)) (interpreted_refused v n vs e)), x.lent)
 
 -- how long an account is at most
 address_small : (base : ℕ) (v os : List ℕ) → Octets v → length v ≤ most → address_account built_in base v ≡ accepted os → length os ≤ 12 * most

@@ -53,15 +53,14 @@ module _ (v : List ℕ) (n : ℕ) (count : n ≡ min (get_or v 4 0) (2 * (length
 
   pub title_stored :
       {a b : Writer}
-      → Writes a (1 ∷ get_or v 3 0 ∷ get_or v 5 0 ∷ get_or v 6 0 ∷ get_or v 7 0 ∷ n ∷ digits_in built_in (take (length v - 8) (drop 8 v)) n) b
+      → Writes a (1 ∷ get_or v 3 0 ∷ get_or v 5 0 ∷ get_or v 6 0 ∷ get_or v 7 0 ∷ n ∷ digits_in built_in (drop 8 v) n) b
       → Writes a (1 ∷ title_fields (title_at built_in v)) b
   title_stored {a} {b} x =
       let there : n ≡ min (get_or v 4 0) (2 * length (drop 8 v)) = rw (length-drop 8 v) count in
-      let digits : digits_in built_in (take (length v - 8) (drop 8 v)) n ≡ digits_in built_in (drop 8 v) (get_or v 4 0) =
-      ap (λ (w : List ℕ). digits_in built_in w n) (whole_part 8 v) ∙ ap (digits_in built_in (drop 8 v)) there ∙ digits-most built_in (drop 8 v) (get_or v 4 0) in
-      let front : List ℕ → List ℕ = λ l. 1 ∷ get_or v 3 0 ∷ get_or v 5 0 ∷ get_or v 6 0 ∷ get_or v 7 0 ∷ l in
+      let digits = ap (digits_in built_in (drop 8 v)) there ∙ digits-most built_in (drop 8 v) (get_or v 4 0) in
       subst (λ (os : List ℕ). Writes a os b)
-      (ap (λ (l : List ℕ). front (n ∷ l)) digits ∙ ap (λ (k : ℕ). front (k ∷ digits_in built_in (drop 8 v) (get_or v 4 0))) number) x
+      (ap (λ (l : List ℕ). 1 ∷ get_or v 3 0 ∷ get_or v 5 0 ∷ get_or v 6 0 ∷ get_or v 7 0 ∷ n ∷ l) digits
+      ∙ ap (λ (k : ℕ). 1 ∷ get_or v 3 0 ∷ get_or v 5 0 ∷ get_or v 6 0 ∷ get_or v 7 0 ∷ k ∷ digits_in built_in (drop 8 v) (get_or v 4 0)) number) x
 
 -- the octets of a point code are the value's first four
 pub four_again : (w : List ℕ) → Octets w → get_or w 0 0 ∷ get_or w 1 0 ∷ get_or w 2 0 ∷ get_or w 3 0 ∷ [] ≡ four (four_in w)

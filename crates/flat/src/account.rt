@@ -1,21 +1,17 @@
-// A flat account of a message with its addresses. The same walk measures and writes: octets that the slice has no place
-// for are counted and not stored, and those of a place or a title are not even made where it has none for the first.
-ghost use Rattle.std.specs.Prelude.{◌≡◌, [], ◌∷◌, map, ℕ, ◌+◌, ◌*◌, ◌^◌, ◌≤◌, ◌<◌};
+// A flat account of a message with its addresses. The same walk measures and writes: octets that the slice has no places
+// for are counted and not stored.
+ghost use Rattle.std.specs.Prelude.{◌≡◌, [], ◌∷◌, List, ℕ, ◌+◌, ◌^◌, ◌≤◌, ◌<◌};
 ghost use lib.ListN.{length};
 ghost use Rattle.bcd.specs.Outcome.{most, delivered, deliver};
 ghost use Rattle.bcd.specs.Answers.{outcome_of};
-ghost use Rattle.bcd.specs.Digits.{built_in, digits_in};
-ghost use Rattle.parameter.specs.Parameter.{four};
-ghost use Rattle.parameter.specs.Walk.{places};
+ghost use Rattle.bcd.specs.Digits.{built_in};
 ghost use Rattle.address.specs.Address.{title_at};
-ghost use Rattle.address.specs.Steps.Kept.{kept_title, kept_code, kept_sub};
-ghost use Rattle.address.specs.Steps.Plan.{HeldIn, Read, places_in};
-ghost use Rattle.flat.specs.Account.{place_octets, marked, title_fields, address_account, param_account, account};
-ghost use Rattle.flat.specs.Steps.Emitting.{Writes, Tried, listed, others_fields, parts_fields, Accounted};
+ghost use Rattle.address.specs.declared.interpret.TitleValue.{TitleValue};
+ghost use Rattle.flat.specs.Account.{place_octets, marked, title_fields, param_account, account};
+ghost use Rattle.flat.specs.Steps.Emitting.{Writes, Tried, others_fields, parts_fields, Accounted};
 
 use crate::writer::Writer;
-use address::interpret::interpret;
-use address::parts::Parts;
+use address::interpret::{Interpreted, TitleValue, interpret};
 use address::rewrite::is_other;
 use bcd::error::Refusal;
 use form::is_address;
@@ -25,8 +21,7 @@ use parameter::{Parameters, Place};
 impl<'a> Writer<'a> {
     // Stores a tag, a start and a length.
     fn place(&mut self, place: Place)
-        requires start_bound { place.start < 2 ^ 32 }
-        requires length_bound { place.length < 2 ^ 32 }
+        requires { place.start + place.length < 2 ^ 32 }
         ensures { Writes self.old (place_octets place) self.new }
     {
         self.put(&place.tag.to_be_bytes());
@@ -34,74 +29,52 @@ impl<'a> Writer<'a> {
         self.put(&(place.length as u32).to_be_bytes());
     }
 
-    // Stores the first n digits of the octets.
-    fn digits(&mut self, bytes: &[u8], n: usize)
-        requires n_bound { n ≤ 255 }
-        requires n_bound_2 { n ≤ 2 * length bytes.now }
-        ensures { Writes self.old (digits_in built_in bytes.now n) self.new }
+    // Stores a title: 1, the descriptors, the number of digits, and the digits. Without one, 0.
+    fn title(&mut self, title: Option<TitleValue<'_>>)
+        ensures { Writes self.old
+            (marked (λ (t : TitleValue). title_fields (title_at built_in t.octets.now)) title.entry) self.new }
     {
+        let Some(title) = title else {
+            return self.put(&[0]);
+        };
+        let octets = title.octets;
+        let n = usize::from(octets[4]).min(2 * (octets.len() - 8));
+        self.put(&[1, octets[3], octets[5], octets[6], octets[7], n as u8]);
         for i in 0..n {
-            self.put(&[bcd::digit_in(bytes, i)]);
+            self.put(&[bcd::digit_in(&octets[8..], i)]);
         }
     }
 
-    // Stores a title, given by its value: 1, the descriptors, the number of digits, and the digits.
-    fn title_there(&mut self, value: &[u8])
-        requires in_bounds { 8 ≤ length value.now }
-        requires value_len_bound { length value.now ≤ most }
-        ensures { Writes self.old (1 ∷ title_fields (title_at built_in value.now)) self.new }
+    // Stores 1 and the octets of a point code. Without one, 0.
+    fn code(&mut self, code: Option<[u8; 4]>)
+        ensures { Writes self.old (marked (λ (os : List ℕ). os) code) self.new }
     {
-        let n = usize::from(value[4]).min(2 * (value.len() - 8));
-        self.put(&[1, value[3], value[5], value[6], value[7], n as u8]);
-        self.digits(&value[8..], n);
+        let Some(octets) = code else {
+            return self.put(&[0]);
+        };
+        self.put(&[1, octets[0], octets[1], octets[2], octets[3]]);
     }
 
-    // Stores the title, if there is one, else 0.
-    fn title(&mut self, value: &[u8], kept: Option<Place>)
-        requires held_in { HeldIn value.now 8 kept }
-        requires value_len_bound { length value.now ≤ most }
-        ensures { Writes self.old (marked title_fields (kept_title built_in value.now kept)) self.new }
+    // Stores 1 and an SSN. Without one, 0.
+    fn ssn(&mut self, ssn: Option<u8>)
+        ensures { Writes self.old (marked (λ (n : ℕ). n ∷ []) ssn) self.new }
     {
-        match kept {
-            Some(place) => self.title_there(place.value(value)),
-            None => self.put(&[0]),
-        }
-    }
-
-    // Stores the point code, if there is one, else 0.
-    fn code(&mut self, value: &[u8], kept: Option<Place>)
-        requires { HeldIn value.now 4 kept }
-        ensures { Writes self.old (marked four (kept_code value.now kept)) self.new }
-    {
-        match kept {
-            Some(place) => {
-                let octets = place.value(value);
-                self.put(&[1, octets[0], octets[1], octets[2], octets[3]]);
-            }
-            None => self.put(&[0]),
-        }
-    }
-
-    // Stores the SSN, if there is one, else 0.
-    fn ssn(&mut self, value: &[u8], kept: Option<Place>)
-        requires { HeldIn value.now 4 kept }
-        ensures { Writes self.old (marked (λ (n : ℕ). n ∷ []) (kept_sub value.now kept)) self.new }
-    {
-        match kept {
-            Some(place) => self.put(&[1, place.value(value)[3]]),
+        match ssn {
+            Some(n) => self.put(&[1, n]),
             None => self.put(&[0]),
         }
     }
 
     // Stores the number of the other sub-parameters, and their places, counted from the message's first octet. It walks only
     // where there are others to store.
-    fn others(&mut self, value: &[u8], parts: Parts, base: usize)
-        requires read { Read value.now parts }
-        requires value_bound { base + length value.now ≤ most }
-        ensures { Writes self.old (others_fields base value.now parts) self.new }
+    fn others(&mut self, it: &Interpreted<'_>, base: usize)
+        requires { base + length it.now.value.now ≤ most }
+        ensures { Writes self.old (others_fields base it.now.value.now it.now.parts) self.new }
     {
-        self.put(&(parts.other_count as u32).to_be_bytes());
-        if parts.other_count == 0 {
+        let value = it.value;
+        let count = it.parts.other_count;
+        self.put(&(count as u32).to_be_bytes());
+        if count == 0 {
             return;
         }
         for place in Parameters::new(value, 4) {
@@ -115,46 +88,34 @@ impl<'a> Writer<'a> {
         }
     }
 
-    // Stores the fields of an address value that was read.
-    fn fields(&mut self, value: &[u8], parts: Parts, base: usize)
-        requires read { Read value.now parts }
-        requires value_bound { base + length value.now ≤ most }
-        ensures { Writes self.old (parts_fields base value.now parts) self.new }
+    // Stores the fields of an address whose value starts at a position of the message.
+    fn fields(&mut self, it: &Interpreted<'_>, base: usize)
+        requires { base + length it.now.value.now ≤ most }
+        ensures { Writes self.old (parts_fields base it.now.value.now it.now.parts) self.new }
     {
+        let value = it.value;
         self.put(&[value[0], value[1], value[3] % 8]);
-        self.title(value, parts.title);
-        self.code(value, parts.code);
-        self.ssn(value, parts.ssn);
-        self.others(value, parts, base);
-    }
-
-    // Stores the account of an address value. Its reading's refusals.
-    fn address(&mut self, value: &[u8], base: usize) -> Result<(), Refusal>
-        requires { base + length value.now ≤ most }
-        ensures { Tried self.old (address_account built_in base value.now) (outcome_of result) self.new }
-    {
-        let parts = interpret(value)?;
-        self.fields(value, parts, base);
-        Ok(())
+        self.title(it.title());
+        self.code(it.code());
+        self.ssn(it.ssn());
+        self.others(it, base);
     }
 
     // Stores the account of one parameter. An address's refusals.
     fn param(&mut self, input: &[u8], place: Place) -> Result<(), Refusal>
-        requires input_len_bound { length input.now ≤ most }
-        requires length_bound { place.start + place.length ≤ lib.ListN.length input.now }
+        requires { place.start + place.length ≤ most }
         ensures { Tried self.old (param_account built_in input.now place) (outcome_of result) self.new }
     {
         self.place(place);
         if is_address(place.tag) {
-            return self.address(place.value(input), place.start);
+            self.fields(&interpret(place.value(input))?, place.start);
         }
         Ok(())
     }
 
-    // Stores the account of all parameters from the seventh octet on, and answers how many they are. 5 or 6 in wire order,
-    // then the first address's refusal.
+    // Stores the account of all parameters from the seventh octet on, and answers how many they are. 12, 5 or 6 in wire
+    // order, then the first address's refusal.
     fn params(&mut self, input: &[u8]) -> Result<usize, Refusal>
-        requires { length input.now ≤ most }
         ensures { Accounted input.now self.old (outcome_of result) self.new }
     {
         let mut n: usize = 0;

@@ -1,21 +1,24 @@
 -- `flat::writer::Writer::fields` meets its contract.
-use Rattle.address.proofs.Planning.{sound}
+use native.Mathlib.Omega.{arith}
 use Rattle.flat.proofs.Emission.{writes_more}
-use Rattle.flat.proofs.Accounting.{parts_stored}
+use Rattle.flat.proofs.Accounting.{whole, parts_stored, title_marked, code_marked}
 use Rattle.flat.proofs.writer.Writer.fields.Goals as goal
 
-pub title-requires-clause-held_in : goal.title-requires-clause-held_in
-title-requires-clause-held_in c = let r = c.requires.read in
-    (sound r.known r.whole).title
+pub bounds-value-0 : goal.bounds-value-0
+bounds-value-0 c = omega (arith, (whole c.args.it.now c.type_inv.value).known.long)
 
-pub code-requires : goal.code-requires
-code-requires c = let r = c.requires.read in
-    (sound r.known r.whole).code
+pub bounds-value-1 : goal.bounds-value-1
+bounds-value-1 c = omega (arith, (whole c.args.it.now c.type_inv.value).known.long)
 
-pub ssn-requires : goal.ssn-requires
-ssn-requires c = let r = c.requires.read in
-    (sound r.known r.whole).ssn
+pub bounds-value-3 : goal.bounds-value-3
+bounds-value-3 c = omega (arith, (whole c.args.it.now c.type_inv.value).known.long)
 
 pub returns : goal.returns
-returns c = parts_stored c.args.base c.args.value.now c.args.parts c.requires.read.known.octets
-    (writes_more (writes_more (writes_more (writes_more c.put.ensures c.title.ensures) c.code.ensures) c.ssn.ensures) c.others.ensures)
+returns c =
+    let v = c.args.it.now.value.now in
+    let s = c.args.it.now.parts in
+    let r = whole c.args.it.now c.type_inv.value in
+    let title = title_marked c.title.result _ c.title.ensures c.title-2.ensures in
+    let code = code_marked c.code.result _ c.code.ensures c.code-2.ensures in
+    parts_stored c.args.base v s r.known.octets
+    (writes_more (writes_more (writes_more (writes_more c.put.ensures title) code) (rw c.ssn.ensures at c.ssn-2.ensures)) c.others.ensures)

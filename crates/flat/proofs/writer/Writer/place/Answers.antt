@@ -8,6 +8,6 @@ pub returns : goal.returns
 returns c =
     let p = c.args.place in
     let t = c.to_be_bytes.ensures ∙ two_bytes p.tag (omega (arith, c)) in
-    let s = c.to_be_bytes-2.ensures ∙ four_bytes p.start c.requires.start_bound in
-    let l = c.to_be_bytes-3.ensures ∙ four_bytes p.length c.requires.length_bound in
+    let s = c.to_be_bytes-2.ensures ∙ four_bytes p.start (omega (arith, c.requires)) in
+    let l = c.to_be_bytes-3.ensures ∙ four_bytes p.length (omega (arith, c.requires)) in
     writes_more (writes_more (rw t at c.put.ensures) (rw s at c.put-2.ensures)) (rw l at c.put-3.ensures)

@@ -1,7 +1,0 @@
--- `flat::writer::Writer::digits` meets its contract: the loop has stored the first i digits.
-use Rattle.bcd.specs.Digits.{built_in, digits_in}
-use Rattle.flat.specs.Steps.Emitting.{Writes}
-use Rattle.flat.proofs.writer.Writer.digits.Given as goal
-
-abbrev pub invariant-loop-i : goal.invariant-loop-i
-invariant-loop-i l = Writes l.initial.self (digits_in built_in l.bytes l.i) l.self

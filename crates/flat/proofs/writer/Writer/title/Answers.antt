@@ -1,0 +1,27 @@
+-- `flat::writer::Writer::title` meets its contract.
+use Prim.Native.Nat.{◌-◌, ◌*◌, min}
+use mathlib.Core.Path.{◌≡◌}
+use native.Mathlib.Omega.{arith}
+use lib.ListN.{length, get_or, drop, length-drop}
+use Rattle.bcd.specs.Digits.{built_in, halves}
+use Rattle.address.proofs.Planning.{whole_part}
+use Rattle.flat.proofs.Emission.{writes_more}
+use Rattle.flat.proofs.Describing.{digits_none, digits_next, title_stored}
+use Rattle.flat.proofs.writer.Writer.title.Goals as goal
+
+pub loop-i-init : goal.loop-i-init
+loop-i-init c = digits_none (drop 8 c.in-Some.title.octets.now) c.put-2.new.self (omega (arith, c.put-2.ensures.behind))
+
+pub loop-i-preserved : goal.loop-i-preserved
+loop-i-preserved c =
+    let v = c.in-Some.title.octets.now in
+    let i = c.loop-i.i in
+    let digit : c.digit_in.result ≡ built_in.char (get_or (halves (drop 8 v)) i 0) = rw (← whole_part 8 v) c.digit_in.ensures in
+    digits_next (drop 8 v) i _ (omega (arith, c.loop-i-test.true, c.min-n.ensures, length-drop 8 v)) digit c.loop-i.invariant c.put-in-loop-i.ensures
+
+pub returns : goal.returns
+returns c =
+    let v = c.in-Some.title.octets.now in
+    let n : c.min-n.result ≡ min (get_or v 4 0) (2 * (length v - 8)) = cc in
+    let all : c.loop-i.i ≡ c.min-n.result = omega (arith, c.loop-i-test.false, c.loop-i.auto.i-end) in
+    rw c.in-Some.is (title_stored v c.min-n.result n (writes_more c.put-2.ensures (rw all at c.loop-i.invariant)))

@@ -4,9 +4,9 @@ use mathlib.Core.Path.{◌≡◌, refl, sym, ap, ◌∙◌}
 use mathlib.Core.List.{List, [], ◌∷◌, ◌++◌}
 use native.Mathlib.Omega.{arith}
 use lib.ListN.{length}
-use Rattle.bcd.specs.Outcome.{Outcome, accepted, refused, after, mapped, each, delivered, deliver}
+use Rattle.bcd.specs.Outcome.{Outcome, accepted, refused, after, mapped, each, bounded, delivered, deliver}
 use Rattle.bcd.specs.Digits.{built_in}
-use Rattle.bcd.proofs.Outcomes.{accepted_inj, never}
+use Rattle.bcd.proofs.Outcomes.{accepted_inj, after_inv, bounded-within}
 use Rattle.parameter.specs.declared.Place.{Place}
 use Rattle.parameter.specs.Parameter.{four}
 use Rattle.parameter.specs.Walk.{places}
@@ -14,6 +14,7 @@ use Rattle.parameter.proofs.Walking.{places_few}
 use Rattle.message.specs.declared.header.CommonHeader.{CommonHeader}
 use Rattle.message.specs.Types.{class_of, type_of}
 use Rattle.message.specs.Message.{read_header}
+use Rattle.message.proofs.Listing.{header_within}
 use Rattle.flat.specs.Account.{param_account, account}
 use Rattle.flat.specs.declared.writer.Writer.{Writer}
 use Rattle.flat.specs.Steps.Emitting.{Writes, accounts, Accounted}
@@ -32,8 +33,11 @@ module _ (xs : List ℕ) (h : CommonHeader) (e : accepted h ≡ read_header xs) 
   unfolding account
   opened = rw (← e) refl
 
+  within : bounded xs (places xs 8) ≡ places xs 8
+  within = bounded-within xs (places xs 8) (header_within xs h (sym e))
+
   pub account_stopped : (n : ℕ) (vs : List ℕ) → accounts xs ≡ refused n vs → refused n vs ≡ account built_in xs
-  account_stopped n vs f = sym (opened ∙ go (places xs 8) f)
+  account_stopped n vs f = sym (opened ∙ go (places xs 8) (rw within at f))
     where
       go :
           (o : Outcome (List Place))
@@ -44,25 +48,22 @@ module _ (xs : List ℕ) (h : CommonHeader) (e : accepted h ≡ read_header xs) 
 
   -- what measuring tells: the account, and how many parameters there are
   module _ {a b : Writer} {n : ℕ} (m : Accounted xs a (accepted n) b) where
-    walked : (ps : List Place) × (places xs 8 ≡ accepted ps)
-    walked = go (places xs 8) refl
-      where
-        go : (o : Outcome (List Place)) → places xs 8 ≡ o → (ps : List Place) × (places xs 8 ≡ accepted ps)
-        go (accepted ps) w = (ps, w)
-        go (refused k vs) w = absurd (never (sym (sym m.tried.1 ∙ ap (λ o. after o (each (param_account built_in xs))) w)))
+    walked : (ps : List Place) × (places xs 8 ≡ accepted ps) × (each (param_account built_in xs) ps ≡ accepted m.tried.0)
+    walked = after_inv (places xs 8) (each (param_account built_in xs)) (rw within at m.tried.1)
+
+    counted : (ps : List Place) → places xs 8 ≡ accepted ps → n ≡ length ps
+    counted ps w = m.count n ps refl (within ∙ w)
 
     pub account_few : n ≤ length xs
-    account_few = let (ps, w) = walked in
-        omega (arith, m.count n ps refl w, places_few xs 8 ps w)
+    account_few = let (ps, w, f) = walked in
+        omega (arith, counted ps w, places_few xs 8 ps w)
 
     pub account_known : account built_in xs ≡ accepted (headed h n m.tried.0)
-    account_known = let (ps, w) = walked in
-        let inner : each (param_account built_in xs) ps ≡ accepted m.tried.0 = sym (ap (λ o. after o (each (param_account built_in xs))) w) ∙ m.tried.1 in
-        let c = m.count n ps refl w in
+    account_known = let (ps, w, f) = walked in
         opened
         ∙ ap (λ o. after o (λ ps. mapped (headed h (length ps)) (each (param_account built_in xs) ps))) w
-        ∙ ap (mapped (headed h (length ps))) inner
-        ∙ ap (λ (k : ℕ). accepted (headed h k m.tried.0)) (sym c)
+        ∙ ap (mapped (headed h (length ps))) f
+        ∙ ap (λ (k : ℕ). accepted (headed h k m.tried.0)) (sym (counted ps w))
 
     module _ (small : length m.tried.0 ≤ 2 ^ 44) (z : a.at ≡ 6) where
       pub account_counted : accepted b.at ≡ mapped length (account built_in xs)

@@ -6,8 +6,7 @@ use mathlib.Core.List.{List, [], ◌∷◌, ◌++◌, map, append_assoc, append-
 use native.Mathlib.Omega.{arith}
 use lib.ListN.{length, get_or, drop, length-append, length-map, length-take, length-drop}
 use Rattle.std.specs.Prelude.{Option, None, Some, option_map}
-use Rattle.std.proofs.Common.{Fits, w8}
-use Rattle.bcd.specs.Outcome.{Outcome, accepted, refused, pick, mapped, each, Octets, most}
+use Rattle.bcd.specs.Outcome.{Outcome, accepted, refused, pick, mapped, each, bounded, Octets, most}
 use Rattle.bcd.specs.Digits.{built_in, digits_in}
 use Rattle.bcd.proofs.Outcomes.{accepted_inj, after_inv, mapped_inv, each_inv, bounded-within, octets-of, octets_at}
 use Rattle.bcd.proofs.Reading.{digits-length}
@@ -38,8 +37,8 @@ use Rattle.flat.proofs.Describing.{value_octets}
 use Rattle.flat.proofs.OtherPlaces.{listed-length}
 
 -- an address value that was interpreted was read
-pub whole : (it : Interpreted) → ((i : ℕ) → Fits w8 (get_or it.value.now i 0)) → Read it.value.now it.parts
-whole it f = interpreted-read (octets-of it.value.now (λ i. (f i).fits)) it.read
+pub whole : (it : Interpreted) → Read it.value.now it.parts
+whole it = interpreted-read (octets-of it.value.now it.fits) it.read
 
 -- a part that is there, told by another
 marked_map : {X Y : Type 0} (f : Y → List ℕ) (g : X → Y) (o : Option X) → marked f (option_map g o) ≡ marked (λ x. f (g x)) o
@@ -175,7 +174,7 @@ module _ (xs : List ℕ) (p : Place) {a b : Writer} (x : Writes a (place_octets 
       → is_address p.tag ≡ true
       → (n : ℕ) (vs : List ℕ)
       → refused n vs ≡ interpreted (valued xs p).value
-      → Tried {Unit {0}} a (param_account built_in xs p) (refused n vs) b
+      → Tried {A = Unit {0}} a (param_account built_in xs p) (refused n vs) b
   param_unread h t n vs e =
       let v = (valued xs p).value in
       (known t _ (account_refused p.start v n vs (omega (arith, value_short xs p, h)) (interpreted_refused v n vs e)), x.lent)
@@ -208,5 +207,5 @@ module _ (xs : List ℕ) (octets : Octets xs) (within : length xs ≤ most) wher
 
   pub accounts_small : (os : List ℕ) → accounts xs ≡ accepted os → length os ≤ 2 ^ 44
   accounts_small os e =
-      let (ps, w, f) = after_inv (places xs 8) _ e in
-      omega (arith, each_small ps os f, places_few xs 8 ps w, within)
+      let (ps, w, f) = after_inv (bounded xs (places xs 8)) _ e in
+      omega (arith, each_small ps os f, places_few xs 8 ps (sym (bounded-within xs (places xs 8) within) ∙ w), within)

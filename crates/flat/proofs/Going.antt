@@ -6,11 +6,11 @@ use mathlib.Core.List.{List, [], ◌∷◌, ◌++◌}
 use native.Mathlib.Omega.{arith}
 use lib.ListN.{length}
 use Rattle.std.specs.Prelude.{Result, Ok, Err, is_ok}
-use Rattle.bcd.specs.Outcome.{Outcome, accepted, refused, after, mapped, each, most, pick, bounded}
+use Rattle.bcd.specs.Outcome.{Outcome, accepted, refused, after, mapped, each, pick, bounded}
 use Rattle.bcd.specs.Answers.{outcome_of}
 use Rattle.bcd.specs.Digits.{built_in}
 use Rattle.bcd.specs.declared.error.Refusal.{Refusal}
-use Rattle.bcd.proofs.Outcomes.{accepted_inj, never, bounded-within}
+use Rattle.bcd.proofs.Outcomes.{accepted_inj, never}
 use Rattle.parameter.specs.declared.Place.{Place}
 use Rattle.parameter.specs.Walk.{ended, found, step_at, places}
 use Rattle.parameter.proofs.Reaching.{Passed, passed_none, passed_next, passed_end, passed_refused}
@@ -76,14 +76,11 @@ module _
     tried = (last xs g.passed.reached.done p g.tried.0 refl, g.tried.1);
   }
 
-module _ {xs : List ℕ} {a : Writer} {n : ℕ} {left : List ℕ} {at : ℕ} {b : Writer} (h : length xs ≤ most) where
+module _ {xs : List ℕ} {a : Writer} {n : ℕ} {left : List ℕ} {at : ℕ} {b : Writer} where
   -- the walk has come to its end
-  done : {o : Outcome (Unit {0})} (g : Going xs a n left at o b) → accepted ended ≡ bounded left (step_at left at) → places xs 8 ≡ accepted g.passed.reached.done
-  done g e = sym (bounded-within xs (places xs 8) h) ∙ passed_end g.passed e
-
   pub going_done : Going xs a n left at (accepted (tt {0})) b → accepted ended ≡ bounded left (step_at left at) → Accounted xs a (accepted n) b
   going_done g e =
-      let w = done g e in
+      let w = passed_end g.passed e in
       record {
         lent = g.tried.2.lent;
         tried = (g.tried.0, ap (λ o. after o (each (param_account built_in xs))) w ∙ g.tried.1, g.tried.2);
@@ -92,7 +89,7 @@ module _ {xs : List ℕ} {a : Writer} {n : ℕ} {left : List ℕ} {at : ℕ} {b 
 
   pub going_stopped : (m : ℕ) (vs : List ℕ) → Going xs a n left at (refused m vs) b → accepted ended ≡ bounded left (step_at left at) → Accounted xs a (refused m vs) b
   going_stopped m vs g e =
-      let w = done g e in
+      let w = passed_end g.passed e in
       record {
         lent = g.tried.1;
         tried = (ap (λ o. after o (each (param_account built_in xs))) w ∙ g.tried.0, g.tried.1);
@@ -102,7 +99,7 @@ module _ {xs : List ℕ} {a : Writer} {n : ℕ} {left : List ℕ} {at : ℕ} {b 
   -- the walk is refused
   pub going_out : {o : Outcome (Unit {0})} (m : ℕ) (vs : List ℕ) → Going xs a n left at o b → refused m vs ≡ bounded left (step_at left at) → Accounted xs a (refused m vs) b
   going_out {o} m vs g e =
-      let w = sym (bounded-within xs (places xs 8) h) ∙ passed_refused g.passed m vs e in
+      let w = passed_refused g.passed m vs e in
       record {
         lent = lent_by a b _ o g.tried;
         tried = (ap (λ o. after o (each (param_account built_in xs))) w, lent_by a b _ o g.tried);

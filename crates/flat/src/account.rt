@@ -71,13 +71,12 @@ impl<'a> Writer<'a> {
         requires { base + length it.now.value.now ≤ most }
         ensures { Writes self.old (others_fields base it.now.value.now it.now.parts) self.new }
     {
-        let value = it.value;
         let count = it.parts.other_count;
         self.put(&(count as u32).to_be_bytes());
         if count == 0 {
             return;
         }
-        for place in Parameters::new(value, 4) {
+        for place in Parameters::new(it.value, 4) {
             let Ok(place) = place else {
                 return;
             };

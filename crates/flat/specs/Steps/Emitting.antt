@@ -1,6 +1,6 @@
 -- Octets stored one after the other, where the slice has places for them.
 use Rattle.std.specs.Prelude.{ℕ, ◌+◌, ◌%◌, ◌≤◌, ◌≡◌, List, [], ◌∷◌, ◌++◌, map, length, get_or, take}
-use Rattle.bcd.specs.Outcome.{Outcome, accepted, refused, after, each, fit64}
+use Rattle.bcd.specs.Outcome.{Outcome, accepted, refused, after, each, bounded, fit64}
 use Rattle.bcd.specs.Digits.{built_in}
 use Rattle.parameter.specs.declared.Place.{Place}
 use Rattle.parameter.specs.Parameter.{two, four, two_at}
@@ -42,11 +42,11 @@ parts_fields base v s =
     ++ (marked (λ (n : ℕ). n ∷ []) (kept_sub v s.ssn)
     ++ others_fields base v s))))
 
--- All parameters, from the seventh octet on, and how many they are.
+-- All parameters, from the seventh octet on, and how many they are. 12 first.
 abbrev pub accounts : List ℕ → Outcome (List ℕ)
-accounts xs = after (places xs 8) (each (param_account built_in xs))
+accounts xs = after (bounded xs (places xs 8)) (each (param_account built_in xs))
 
 pub record Accounted (xs : List ℕ) (a : Writer) (answer : Outcome ℕ) (b : Writer) : Type 0 where
   pub lent : b.out.ghost_name ≡ a.out.ghost_name
   pub tried : Tried a (accounts xs) answer b
-  pub count : (n : ℕ) (ps : List Place) → answer ≡ accepted n → places xs 8 ≡ accepted ps → n ≡ length ps
+  pub count : (n : ℕ) (ps : List Place) → answer ≡ accepted n → bounded xs (places xs 8) ≡ accepted ps → n ≡ length ps

@@ -17,9 +17,6 @@ returns-in_err-header c =
     let xs = c.args.input.now in
     exit_delivered c.from_residual.result _ c.from_residual.ensures.1 (account built_in xs) c.args.out.now (account_unread xs _ _ c.in_err-header.ensures)
 
-pub params-requires : goal.params-requires
-params-requires c = header_within _ _ (sym c.in_ok-header.ensures)
-
 pub returns-in_err-count : goal.returns-in_err-count
 returns-in_err-count c =
     let xs = c.args.input.now in
@@ -39,9 +36,6 @@ overflow_cast-count c =
     let xs = c.args.input.now in
     let few = account_few xs c.in_ok-header.header c.in_ok-header.ensures c.in_ok-count.ensures in
     omega (arith, few, header_within xs _ (sym c.in_ok-header.ensures))
-
-pub params-requires-2 : goal.params-requires-2
-params-requires-2 c = header_within _ _ (sym c.in_ok-header.ensures)
 
 pub returns : goal.returns
 returns c =

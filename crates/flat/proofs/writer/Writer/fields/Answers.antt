@@ -1,23 +1,13 @@
 -- `flat::writer::Writer::fields` meets its contract.
-use native.Mathlib.Omega.{arith}
 use Rattle.flat.proofs.Emission.{writes_more}
 use Rattle.flat.proofs.Accounting.{whole, parts_stored, title_marked, code_marked}
 use Rattle.flat.proofs.writer.Writer.fields.Goals as goal
-
-pub bounds-value-0 : goal.bounds-value-0
-bounds-value-0 c = omega (arith, (whole c.args.it.now c.type_inv.value).known.long)
-
-pub bounds-value-1 : goal.bounds-value-1
-bounds-value-1 c = omega (arith, (whole c.args.it.now c.type_inv.value).known.long)
-
-pub bounds-value-3 : goal.bounds-value-3
-bounds-value-3 c = omega (arith, (whole c.args.it.now c.type_inv.value).known.long)
 
 pub returns : goal.returns
 returns c =
     let v = c.args.it.now.value.now in
     let s = c.args.it.now.parts in
-    let r = whole c.args.it.now c.type_inv.value in
+    let r = whole c.args.it.now in
     let title = title_marked c.title.result _ c.title.ensures c.title-2.ensures in
     let code = code_marked c.code.result _ c.code.ensures c.code-2.ensures in
     parts_stored c.args.base v s r.known.octets

@@ -11,11 +11,11 @@ use Rattle.flat.proofs.OtherPlaces.{listing_start, listing_more, listing_done, o
 use Rattle.flat.proofs.writer.Writer.others.Goals as goal
 
 pub overflow_cast-count : goal.overflow_cast-count
-overflow_cast-count c = omega (arith, count_small (whole c.args.it.now c.type_inv.value).known)
+overflow_cast-count c = omega (arith, count_small (whole c.args.it.now).known)
 
 pub returns-then-count-eq0 : goal.returns-then-count-eq0
 returns-then-count-eq0 c =
-    let r = whole c.args.it.now c.type_inv.value in
+    let r = whole c.args.it.now in
     let n = c.to_be_bytes.ensures ∙ four_bytes c.args.it.now.parts.other_count (omega (arith, count_small r.known)) in
     others_none c.args.base r c.if-count-eq0.true (rw n at c.put.ensures)
 
@@ -27,7 +27,7 @@ loop-place-init c =
 pub returns-in_default : goal.returns-in_default
 returns-in_default c =
     let v = c.args.it.now.value.now in
-    let k = (whole c.args.it.now c.type_inv.value).known in
+    let k = (whole c.args.it.now).known in
     let i = c.loop-place.invariant in
     let s = rw (c.in_default.is, i.0) at c.in-Some.ensures.steps in
     absurd (never (sym (sym (bounded-within v (places v 4) k.within) ∙ walk_refused i.1.reached _ _ s.1) ∙ k.walked))
@@ -64,6 +64,6 @@ pub returns : goal.returns
 returns c =
     let i = c.loop-place.invariant in
     let s = rw i.0 at c.in-None.ensures.steps in
-    let k = (whole c.args.it.now c.type_inv.value).known in
+    let k = (whole c.args.it.now).known in
     let n = c.to_be_bytes.ensures ∙ four_bytes c.args.it.now.parts.other_count (omega (arith, count_small k)) in
     writes_more (rw n at c.put.ensures) (listing_done i.1 s.1)

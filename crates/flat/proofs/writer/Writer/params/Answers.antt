@@ -3,7 +3,7 @@ use mathlib.Core.Path.{ap, ◌∙◌}
 use native.Mathlib.Omega.{arith}
 use Rattle.bcd.proofs.Results.{exit}
 use Rattle.parameter.specs.declared.Parameters.{Parameters}
-use Rattle.parameter.proofs.Reaching.{walk_found}
+use Rattle.parameter.proofs.Reaching.{walk_within, walk_found}
 use Rattle.flat.proofs.Going.{going_start, going_ok, going_more, going_refused, going_done, going_stopped, going_out}
 use Rattle.flat.proofs.writer.Writer.params.Goals as goal
 
@@ -15,13 +15,14 @@ loop-place-init c =
 pub returns-in_err-place : goal.returns-in_err-place
 returns-in_err-place c =
     let s = rw (c.in_err-place.was) at c.in-Some.ensures.steps in
-    rw (exit _ _ c.from_residual.ensures.1) (going_out c.requires _ _ c.loop-place.invariant s.1)
+    rw (exit _ _ c.from_residual.ensures.1) (going_out _ _ c.loop-place.invariant s.1)
 
 pub param-told-requires : goal.param-told-requires
 param-told-requires c =
     let s = rw (c.in_ok-place.was) at c.in-Some.ensures.steps in
-    let f = walk_found c.args.input.now c.loop-place.place-iterator.at (rw c.loop-place.invariant.passed.same at s.1) in
-    record { input_len_bound = c.requires; length_bound = f.inside }
+    let t = rw c.loop-place.invariant.passed.same at s.1 in
+    let f = walk_found c.args.input.now c.loop-place.place-iterator.at t in
+    omega (arith, f.inside, walk_within c.args.input.now c.loop-place.place-iterator.at t)
 
 pub loop-place-preserved-then-is_ok : goal.loop-place-preserved-then-is_ok
 loop-place-preserved-then-is_ok c =
@@ -35,7 +36,7 @@ loop-place-preserved c =
 
 pub returns-in_err-told : goal.returns-in_err-told
 returns-in_err-told c =
-    rw (exit _ _ c.from_residual-in_err-told.ensures.1) (going_stopped c.requires _ _ (rw c.in_err-told.was at c.loop-place.invariant) c.in-None.ensures.steps.1)
+    rw (exit _ _ c.from_residual-in_err-told.ensures.1) (going_stopped _ _ (rw c.in_err-told.was at c.loop-place.invariant) c.in-None.ensures.steps.1)
 
 pub returns : goal.returns
-returns c = going_done c.requires (rw c.in_ok-told.was at c.loop-place.invariant) c.in-None.ensures.steps.1
+returns c = going_done (rw c.in_ok-told.was at c.loop-place.invariant) c.in-None.ensures.steps.1

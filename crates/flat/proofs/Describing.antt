@@ -15,7 +15,6 @@ use Rattle.parameter.specs.Parameter.{four, four_in, two_at}
 use Rattle.parameter.specs.declared.Place.{Place}
 use Rattle.parameter.specs.Walk.{valued}
 use Rattle.address.specs.Address.{title_at}
-use Rattle.address.proofs.Planning.{whole_part}
 use Rattle.flat.specs.Account.{title_fields}
 use Rattle.flat.specs.declared.writer.Writer.{Writer}
 use Rattle.flat.specs.Steps.Emitting.{Writes}

@@ -1,5 +1,5 @@
 -- How far the account of the parameters has come.
-use Prim.Native.Nat.{ℕ, ◌+◌, ◌^◌, ◌≤◌, ◌<◌}
+use Prim.Native.Nat.{ℕ, ◌+◌, ◌^◌, ◌<◌}
 use mathlib.Core.Path.{◌≡◌, refl, sym, ap, ◌∙◌}
 use mathlib.Core.Bool.{true, false}
 use mathlib.Core.List.{List, [], ◌∷◌, ◌++◌}
@@ -12,7 +12,7 @@ use Rattle.bcd.specs.Digits.{built_in}
 use Rattle.bcd.specs.declared.error.Refusal.{Refusal}
 use Rattle.bcd.proofs.Outcomes.{accepted_inj, never}
 use Rattle.parameter.specs.declared.Place.{Place}
-use Rattle.parameter.specs.Walk.{ended, found, step_at, places}
+use Rattle.parameter.specs.Walk.{ended, found, step_at}
 use Rattle.parameter.proofs.Reaching.{Passed, passed_none, passed_next, passed_end, passed_refused}
 use Rattle.form.proofs.Passes.{each_last}
 use Rattle.flat.specs.Account.{param_account}

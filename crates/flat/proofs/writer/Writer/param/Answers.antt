@@ -1,12 +1,9 @@
 -- `flat::writer::Writer::param` meets its contract.
-use mathlib.Core.Path.{◌≡◌, refl, sym, ap, ◌∙◌}
-use mathlib.Core.List.{List}
-use Prim.Native.Nat.{ℕ}
+use mathlib.Core.Path.{refl, sym, ap, ◌∙◌}
 use native.Mathlib.Omega.{arith}
 use lib.ListN.{length}
 use Rattle.bcd.proofs.Outcomes.{octets-of}
 use Rattle.bcd.proofs.Results.{exit}
-use Rattle.parameter.specs.Walk.{valued}
 use Rattle.flat.proofs.Accounting.{value_short, param_raw, param_read, param_unread}
 use Rattle.flat.proofs.writer.Writer.param.Goals as goal
 

@@ -1,7 +1,7 @@
 -- The constructors of messages (message.rs; document 01, module 6): a message's type and its parameters in the Rust's order,
 -- written. Refused: the source's, the destination's, further 10 in order, 12 (document 01, 'Order'). An argument that may be
 -- absent is an option; an address is a record with its own values and table.
-use Rattle.std.specs.Prelude.{ℕ, List, [], ◌∷◌, ◌++◌, Option}
+use Rattle.std.specs.Prelude.{ℕ, List, [], ◌∷◌, ◌++◌, Option, None}
 use Rattle.bcd.specs.Outcome.{Outcome, after}
 use Rattle.parameter.specs.Parameter.{Param, param}
 use Rattle.parameter.specs.Table.{Table}
@@ -50,9 +50,13 @@ cldr context cause_type cause_value source sv st destination dv dt octets =
 abbrev pub asp_up : (id : Option ℕ) → (info : Option (List ℕ)) → Outcome (List ℕ)
 asp_up id info = written M.AspUp (given (number 0x0011) id ++ given (param 0x0004) info)
 
+-- Octets under a tag, and nothing else.
+abbrev pub octets_only : MessageType → (tag : ℕ) → (octets : Option (List ℕ)) → Outcome (List ℕ)
+octets_only m tag octets = written m (given (param tag) octets)
+
 -- ASP Up Ack, ASP Down, ASP Down Ack (RFC 3868, 3.5): info string.
 abbrev pub info_only : MessageType → (info : Option (List ℕ)) → Outcome (List ℕ)
-info_only m info = written m (given (param 0x0004) info)
+info_only m info = octets_only m 0x0004 info
 
 -- ASP Active, ASP Active Ack (RFC 3868, 3.6): traffic mode type, routing context.
 abbrev pub traffic_and_rc : MessageType → (mode context : Option ℕ) → Outcome (List ℕ)
@@ -60,11 +64,11 @@ traffic_and_rc m mode context = written m (given (number 0x000B) mode ++ given (
 
 -- ASP Inactive, ASP Inactive Ack (RFC 3868, 3.6): routing context.
 abbrev pub rc_only : MessageType → (context : Option ℕ) → Outcome (List ℕ)
-rc_only m context = written m (given (number 0x0006) context)
+rc_only m context = traffic_and_rc m None context
 
 -- Heartbeat, Heartbeat Ack (RFC 3868, 3.5): heartbeat data.
 abbrev pub heartbeat_like : MessageType → (octets : Option (List ℕ)) → Outcome (List ℕ)
-heartbeat_like m octets = written m (given (param 0x0009) octets)
+heartbeat_like m octets = octets_only m 0x0009 octets
 
 -- Error (RFC 3868, 3.7): error code, routing context, diagnostic information.
 abbrev pub error_message : (code : ℕ) → (context : Option ℕ) → (info : Option (List ℕ)) → Outcome (List ℕ)

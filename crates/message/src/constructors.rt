@@ -5,7 +5,7 @@ ghost use Rattle.bcd.specs.Outcome.{delivered, deliver};
 ghost use Rattle.bcd.specs.Answers.{outcome_of};
 ghost use Rattle.pieces.specs.declared.Part.TheVariants as P;
 ghost use Rattle.message.specs.declared.types.MessageType.TheVariants as M;
-ghost use Rattle.message.specs.Constructors.{asp_up, info_only, traffic_and_rc, rc_only, heartbeat_like};
+ghost use Rattle.message.specs.Constructors.{asp_up, octets_only, info_only, traffic_and_rc, rc_only, heartbeat_like};
 ghost use Rattle.message.specs.Constructors.{error_message, notify, snm, cldt, cldr};
 ghost use Rattle.message.specs.Steps.Parts.{made};
 
@@ -63,16 +63,17 @@ fn octets<'a>(tag: u16, octets: Option<&'a [u8]>) -> Option<Part<'a>>
     octets.map(|octets| Part::Octets(tag, octets))
 }
 
-// Writes a message with an info string, if given.
-fn info_only(
+// Writes a message with octets under a tag, if given.
+fn octets_only(
     message_type: MessageType,
-    info: Option<&[u8]>,
+    tag: u16,
+    given: Option<&[u8]>,
     out: &mut [u8],
 ) -> Result<usize, Refusal>
     ensures { delivered (outcome_of result) out.new
-        ≡ deliver (info_only message_type (option_copied info.entry)) out.old }
+        ≡ deliver (octets_only message_type tag (option_copied given.entry)) out.old }
 {
-    write(message_type, &[octets(tags::INFO_STRING, info)], out)
+    write(message_type, &[octets(tag, given)], out)
 }
 
 // Writes a message with a traffic mode type and a routing context, each if given.
@@ -88,34 +89,6 @@ fn traffic_and_rc(
     let traffic_mode = number(tags::TRAFFIC_MODE_TYPE, traffic_mode);
     let routing_context = number(tags::ROUTING_CONTEXT, routing_context);
     write(message_type, &[traffic_mode, routing_context], out)
-}
-
-// Writes a message with a routing context, if given.
-fn rc_only(
-    message_type: MessageType,
-    routing_context: Option<u32>,
-    out: &mut [u8],
-) -> Result<usize, Refusal>
-    ensures { delivered (outcome_of result) out.new
-        ≡ deliver (rc_only message_type routing_context) out.old }
-{
-    write(
-        message_type,
-        &[number(tags::ROUTING_CONTEXT, routing_context)],
-        out,
-    )
-}
-
-// Writes a message with heartbeat data, if given.
-fn heartbeat_like(
-    message_type: MessageType,
-    data: Option<&[u8]>,
-    out: &mut [u8],
-) -> Result<usize, Refusal>
-    ensures { delivered (outcome_of result) out.new
-        ≡ deliver (heartbeat_like message_type (option_copied «data».entry)) out.old }
-{
-    write(message_type, &[octets(tags::HEARTBEAT_DATA, data)], out)
 }
 
 // Writes a message with a routing context, if given, and point codes.
@@ -230,7 +203,7 @@ impl SuaMessage {
         ensures { delivered (outcome_of result) out.new
             ≡ deliver (info_only M.AspUpAck (option_copied info.entry)) out.old }
     {
-        info_only(MessageType::AspUpAck, info, out)
+        octets_only(MessageType::AspUpAck, tags::INFO_STRING, info, out)
     }
 
     // ASP Down: info string. 10, 14.
@@ -238,7 +211,7 @@ impl SuaMessage {
         ensures { delivered (outcome_of result) out.new
             ≡ deliver (info_only M.AspDown (option_copied info.entry)) out.old }
     {
-        info_only(MessageType::AspDown, info, out)
+        octets_only(MessageType::AspDown, tags::INFO_STRING, info, out)
     }
 
     // ASP Down Ack: info string. 10, 14.
@@ -246,7 +219,7 @@ impl SuaMessage {
         ensures { delivered (outcome_of result) out.new
             ≡ deliver (info_only M.AspDownAck (option_copied info.entry)) out.old }
     {
-        info_only(MessageType::AspDownAck, info, out)
+        octets_only(MessageType::AspDownAck, tags::INFO_STRING, info, out)
     }
 
     // ASP Active: traffic mode type, routing context. 14.
@@ -283,7 +256,7 @@ impl SuaMessage {
         ensures { delivered (outcome_of result) out.new
             ≡ deliver (rc_only M.AspInactive routing_context) out.old }
     {
-        rc_only(MessageType::AspInactive, routing_context, out)
+        traffic_and_rc(MessageType::AspInactive, None, routing_context, out)
     }
 
     // ASP Inactive Ack: routing context. 14.
@@ -291,7 +264,7 @@ impl SuaMessage {
         ensures { delivered (outcome_of result) out.new
             ≡ deliver (rc_only M.AspInactiveAck routing_context) out.old }
     {
-        rc_only(MessageType::AspInactiveAck, routing_context, out)
+        traffic_and_rc(MessageType::AspInactiveAck, None, routing_context, out)
     }
 
     // Heartbeat: heartbeat data. 10, 14.
@@ -299,7 +272,7 @@ impl SuaMessage {
         ensures { delivered (outcome_of result) out.new
             ≡ deliver (heartbeat_like M.Heartbeat (option_copied «data».entry)) out.old }
     {
-        heartbeat_like(MessageType::Heartbeat, data, out)
+        octets_only(MessageType::Heartbeat, tags::HEARTBEAT_DATA, data, out)
     }
 
     // Heartbeat Ack: heartbeat data. 10, 14.
@@ -307,7 +280,7 @@ impl SuaMessage {
         ensures { delivered (outcome_of result) out.new
             ≡ deliver (heartbeat_like M.HeartbeatAck (option_copied «data».entry)) out.old }
     {
-        heartbeat_like(MessageType::HeartbeatAck, data, out)
+        octets_only(MessageType::HeartbeatAck, tags::HEARTBEAT_DATA, data, out)
     }
 
     // Error: error code, routing context, diagnostic information. 10, 14.

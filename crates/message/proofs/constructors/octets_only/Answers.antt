@@ -1,7 +1,7 @@
--- `message::constructors::info_only` meets its contract.
+-- `message::constructors::octets_only` meets its contract.
 use mathlib.Core.Path.{◌∙◌}
 use Rattle.message.proofs.Constructing.{told, last, octets_given}
-use Rattle.message.proofs.constructors.info_only.Goals as goal
+use Rattle.message.proofs.constructors.octets_only.Goals as goal
 
 pub returns : goal.returns
 returns c =

@@ -7,11 +7,12 @@ use native.Mathlib.Numerals.{add-one}
 use borrow.Author.Tests.{le-leb, lt-leb, leb-true}
 use borrow.Rule.Slice.PartMut.{put_mid}
 use lib.Dec.{leb}
-use lib.ListN.{length, get_or, set, take, drop, length-append, length-drop}
-use lib.Seq.{take-suc, take_all, length-take-le}
+use lib.ListN.{length, get_or, take, length-append}
+use lib.Seq.{take-suc, length-take-le}
+use Rattle.std.specs.Simd.{first_chunks}
 use Rattle.bcd.specs.Outcome.{accepted, refused, most, delivered}
 use Rattle.bcd.proofs.Outcomes.{accepted_inj, demand_inv, bounded-within, bounded_beyond, deliver_refused}
-use Rattle.bcd.proofs.Writing.{Begun, untouched, extend_all, store_next}
+use Rattle.bcd.proofs.Writing.{Begun, extend_all}
 use Rattle.bcd.proofs.Writing.{delivered as begun-delivered}
 use Rattle.pieces.specs.PointCodes.{low24, code_octets, codes_octets, most_codes, pack_codes, codes_in, unpack_codes, store_codes}
 
@@ -88,61 +89,26 @@ codes_in_length (m ∷ a ∷ []) = refl
 codes_in_length (m ∷ []) = refl
 codes_in_length [] = refl
 
--- The code of a chunk of four octets, and the codes behind it.
-abbrev pub chunk_code : List ℕ → ℕ
-chunk_code x = get_or x 1 0 * 65536 + get_or x 2 0 * 256 + get_or x 3 0
+-- The code of a group of four octets.
+abbrev pub group_code : List ℕ → ℕ
+group_code x = get_or x 1 0 * 65536 + get_or x 2 0 * 256 + get_or x 3 0
 
-codes_chunk : (x rest : List ℕ) → length x ≡ 4 → codes_in (x ++ rest) ≡ chunk_code x ∷ codes_in rest
+group_at : (xs : List ℕ) (n i : ℕ) (d : List ℕ) → i < n → n ≤ length xs / 4 → group_code (get_or (first_chunks 4 n xs) i d) ≡ get_or (codes_in xs) i 0
 unfolding codes_in
-codes_chunk (m ∷ a ∷ b ∷ c ∷ []) rest e = refl
-codes_chunk (m ∷ a ∷ b ∷ c ∷ d ∷ x) rest e = absurd (omega arith)
-codes_chunk (m ∷ a ∷ b ∷ []) rest e = absurd (omega arith)
-codes_chunk (m ∷ a ∷ []) rest e = absurd (omega arith)
-codes_chunk (m ∷ []) rest e = absurd (omega arith)
-codes_chunk [] rest e = absurd (omega arith)
+group_at xs zero i d h l = absurd (omega arith)
+group_at (m ∷ a ∷ b ∷ c ∷ xs) (suc n) zero d h l = refl
+group_at (m ∷ a ∷ b ∷ c ∷ xs) (suc n) (suc i) d h l = group_at xs n i d (omega arith) (omega arith)
+group_at (m ∷ a ∷ b ∷ []) (suc n) i d h l = absurd (omega arith)
+group_at (m ∷ a ∷ []) (suc n) i d h l = absurd (omega arith)
+group_at (m ∷ []) (suc n) i d h l = absurd (omega arith)
+group_at [] (suc n) i d h l = absurd (omega arith)
 
-codes_end : (xs : List ℕ) → length xs < 4 → codes_in xs ≡ []
-unfolding codes_in
-codes_end (m ∷ a ∷ b ∷ c ∷ xs) h = absurd (omega arith)
-codes_end (m ∷ a ∷ b ∷ []) h = refl
-codes_end (m ∷ a ∷ []) h = refl
-codes_end (m ∷ []) h = refl
-codes_end [] h = refl
-
--- What stands at a place of a list, and behind it.
-behind : (i x : ℕ) (xs ys : List ℕ) → x ∷ xs ≡ drop i ys → (i < length ys) × (get_or ys i 0 ≡ x) × (xs ≡ drop (suc i) ys)
-behind zero x xs (y ∷ ys) e = (omega arith, cc, cc)
-behind (suc i) x xs (y ∷ ys) e = let (h, k, l) = behind i x xs ys e in (omega (arith, h), k, l)
-behind zero x xs [] e = absurd (let z : suc (length xs) ≡ 0 = ap length e in omega (arith, z))
-behind (suc i) x xs [] e = absurd (let z : suc (length xs) ≡ 0 = ap length e in omega (arith, z))
-
--- The first i codes of a value are stored, and the chunks left hold the others.
-pub record Listed (value out rest d : List ℕ) (i : ℕ) : Type 0 where
-  pub left : codes_in rest ≡ drop i (codes_in value)
-  pub begun : Begun out (take i (codes_in value)) d
-
-pub listed_start : (value out : List ℕ) → Listed value out value out 0
-listed_start value out = record { left = refl; begun = untouched out }
-
-module _ {value out rest d : List ℕ} {i : ℕ} (k : Listed value out rest d i) where
-  pub listed_next :
-      (j n v : ℕ) (x last : List ℕ)
-      → j ≡ i
-      → n ≡ i + 1
-      → length value / 4 ≤ length out
-      → rest ≡ x ++ last
-      → length x ≡ 4
-      → v ≡ chunk_code x
-      → Listed value out last (set d j v) n
-  listed_next j n v x last at more room e l s =
-      let (h, here, rest) = behind i (chunk_code x) (codes_in last) (codes_in value) (sym (codes_chunk x last l) ∙ ap codes_in (sym e) ∙ k.left) in
-      let b = store_next (codes_in value) i k.begun h (omega (arith, codes_in_length value)) in
-      rw (at, more, s, ← here) (record { left = rw add-one rest; begun = b })
-
-  pub listed_all : length rest < 4 → Begun out (codes_in value) d
-  listed_all h =
-      let none : length (drop i (codes_in value)) ≡ 0 = ap length (sym k.left ∙ codes_end rest h) in
-      rw (take_all i (codes_in value) (omega (arith, none, length-drop i (codes_in value)))) at k.begun
+pub code_at :
+    (xs : List ℕ) (i : ℕ) (groups : List (List ℕ)) (d : List ℕ)
+    → groups ≡ first_chunks 4 (length xs / 4) xs
+    → i < length xs / 4
+    → group_code (get_or groups i d) ≡ get_or (codes_in xs) i 0
+code_at xs i groups d e h = rw e (group_at xs (length xs / 4) i d h (omega arith))
 
 -- Codes stored in a table: refused, too many, or stored.
 pub store_refused : (n : ℕ) (vs held : List ℕ) → delivered (refused n vs) held ≡ store_codes (refused n vs) held

@@ -36,12 +36,13 @@ pub fn list_codes(value: &[u8], out: &mut [u32]) -> Result<usize, Refusal>
     ensures { delivered (outcome_of result) out.new
         ≡ store_codes (accepted (codes_in value.now)) out.old }
 {
-    let n = value.len() / 4;
+    let (groups, _) = value.as_chunks::<4>();
+    let n = groups.len();
     if out.len() < n {
         return Err(Refusal::TableTooSmall(n));
     }
-    for (i, octets) in value.chunks_exact(4).enumerate() {
-        out[i] = u32::from_be_bytes([0, octets[1], octets[2], octets[3]]);
+    for (i, &[_, high, middle, low]) in groups.iter().enumerate() {
+        out[i] = u32::from_be_bytes([0, high, middle, low]);
     }
     Ok(n)
 }

@@ -1,27 +1,30 @@
 -- `pieces::point_codes::list_codes` meets its contract: the loop has stored the first i codes.
-use mathlib.Core.Path.{◌∙◌}
+use mathlib.Core.Path.{sym, ◌∙◌, subst}
+use Prim.Native.Nat.{ℕ, ◌+◌}
+use mathlib.Core.List.{[]}
 use native.Mathlib.Omega.{arith}
+use lib.ListN.{take, set}
+use lib.Seq.{take_all}
+use Rattle.bcd.proofs.Writing.{Begun, store_next}
 use Rattle.pieces.specs.PointCodes.{codes_in}
-use Rattle.pieces.proofs.PointCodes.{codes_in_length, listed_start, listed_next, listed_all, store_small, store_done}
+use Rattle.pieces.proofs.PointCodes.{codes_in_length, code_at, store_small, store_done}
 use Rattle.pieces.proofs.point_codes.list_codes.Goals as goal
 
 pub returns-then-out-n : goal.returns-then-out-n
-returns-then-out-n c = store_small (codes_in c.args.value.now) c.args.out.now _ (codes_in_length c.args.value.now) c.if-out-n.true
-
-pub loop-i-init : goal.loop-i-init
-loop-i-init c =
-    rw (c.into_iter-i-iterator.ensures.into_iter_gives, c.enumerate-i-items.ensures.source, c.enumerate-i-items.ensures.count, c.chunks_exact.ensures.rest)
-    (c.chunks_exact.ensures.size, listed_start c.args.value.now c.args.out.now)
+returns-then-out-n c = store_small (codes_in c.args.value.now) c.args.out.now _ (codes_in_length c.args.value.now ∙ sym c.as_chunks.ensures.front_len) c.if-out-n.true
 
 pub loop-i-preserved : goal.loop-i-preserved
 loop-i-preserved c =
-    let s = c.in-Some.ensures.steps in
-    let size = s.0.1.1 ∙ c.loop-i.invariant.0 in (
-      s.0.0 ∙ c.loop-i.invariant.0,
-      listed_next c.loop-i.invariant.1 _ _ _ c.in-Some.octets.now _ s.1 s.2 (omega arith) s.0.1.0 size (omega (arith, c.from_be_bytes.ensures)),
-    )
+    let codes = codes_in c.args.value.now in
+    let i = c.loop-i.i in
+    let v = code_at c.args.value.now i _ [] c.as_chunks.ensures.front (omega arith) in
+    let l = codes_in_length c.args.value.now in
+    subst (λ (v : ℕ). Begun c.args.out.now (take (i + 1) codes) (set c.loop-i.out i v)) (sym v ∙ omega (arith, c.from_be_bytes.ensures))
+    (store_next codes i c.loop-i.invariant (omega (arith, l)) (omega arith))
 
 pub returns : goal.returns
 returns c =
-    let s = c.in-None.ensures.steps in
-    store_done _ (listed_all c.loop-i.invariant.1 (omega (arith, s.0.1.0, c.loop-i.invariant.0))) (codes_in_length c.args.value.now)
+    let codes = codes_in c.args.value.now in
+    let l = codes_in_length c.args.value.now ∙ sym c.as_chunks.ensures.front_len in
+    let b : Begun c.args.out.now codes c.loop-i.out = rw (take_all c.loop-i.i codes (omega (arith, l))) at c.loop-i.invariant in
+    store_done _ b l

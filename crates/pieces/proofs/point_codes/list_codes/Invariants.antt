@@ -1,11 +1,8 @@
 -- `pieces::point_codes::list_codes` meets its contract: the loop has stored the first i codes.
-use mathlib.Core.Path.{◌≡◌}
-use Rattle.std.specs.Iterator.Adapters.{enumerate_source, enumerate_count}
-use Rattle.std.specs.Slice.Iter.{chunks_exact_rest, chunks_exact_size}
-use Rattle.pieces.proofs.PointCodes.{Listed}
+use lib.ListN.{take}
+use Rattle.bcd.proofs.Writing.{Begun}
+use Rattle.pieces.specs.PointCodes.{codes_in}
 use Rattle.pieces.proofs.point_codes.list_codes.Given as goal
 
 abbrev pub invariant-loop-i : goal.invariant-loop-i
-invariant-loop-i l =
-    let chunks = enumerate_source l.i-iterator in
-    (chunks_exact_size chunks ≡ 4) × Listed l.value l.initial.out (chunks_exact_rest chunks) l.out (enumerate_count l.i-iterator)
+invariant-loop-i l = Begun l.initial.out (take l.i (codes_in l.value)) l.out

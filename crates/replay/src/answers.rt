@@ -2,6 +2,8 @@
 ghost use Rattle.std.specs.Prelude.{◌<◌};
 
 use crate::line::Line;
+use address::{GlobalTitle, SuaAddress};
+use bcd::GtDigits;
 use bcd::error::Refusal;
 use message::SuaMessage;
 use message::accessors::SccpCause;
@@ -13,6 +15,12 @@ use std::fmt;
 // An answer that a line shows.
 pub(crate) trait Answer {
     fn show(&self, line: &mut Line) -> fmt::Result;
+
+    // Shows what stands behind a refusal in the place of an answer.
+    fn show_refused(line: &mut Line) -> fmt::Result {
+        let _ = line;
+        Ok(())
+    }
 }
 
 // How many values a refusal has.
@@ -37,7 +45,7 @@ impl Answer for Refusal {
     fn show(&self, line: &mut Line) -> fmt::Result {
         let mut list = [0u64; 4];
         report::store(Err(*self), &mut list);
-        line.word(b"refused")?;
+        line.word("refused")?;
         line.numbers(&list[..values(self) + 1])
     }
 }
@@ -46,7 +54,10 @@ impl<T: Answer> Answer for Result<T, Refusal> {
     fn show(&self, line: &mut Line) -> fmt::Result {
         match self {
             Ok(answer) => answer.show(line),
-            Err(refusal) => refusal.show(line),
+            Err(refusal) => {
+                refusal.show(line)?;
+                T::show_refused(line)
+            }
         }
     }
 }
@@ -55,21 +66,18 @@ impl<T: Answer> Answer for Option<T> {
     fn show(&self, line: &mut Line) -> fmt::Result {
         match self {
             Some(answer) => answer.show(line),
-            None => line.word(b"none"),
+            None => line.word("none"),
         }
     }
 }
 
 impl Answer for bool {
     fn show(&self, line: &mut Line) -> fmt::Result {
-        line.word(if *self {
-            b"yes".as_slice()
-        } else {
-            b"no".as_slice()
-        })
+        line.word(if *self { "yes" } else { "no" })
     }
 }
 
+// Numbers by width: one impl for all that are `Into<u64>` would be a second one for `bool`, and `usize` is not.
 impl Answer for usize {
     fn show(&self, line: &mut Line) -> fmt::Result {
         line.ok(&[*self as u64])
@@ -91,6 +99,13 @@ impl Answer for u16 {
 impl Answer for u8 {
     fn show(&self, line: &mut Line) -> fmt::Result {
         line.ok(&[u64::from(*self)])
+    }
+}
+
+// A report's four numbers.
+impl Answer for [u64; 4] {
+    fn show(&self, line: &mut Line) -> fmt::Result {
+        line.numbers(self)
     }
 }
 
@@ -116,7 +131,7 @@ impl Answer for (Place, usize) {
 
 impl Answer for MessageClass {
     fn show(&self, line: &mut Line) -> fmt::Result {
-        line.ok(&[class_octet(*self)])
+        line.ok(&[*self as u64])
     }
 }
 
@@ -127,7 +142,7 @@ impl Answer for MessageType {
         line.ok(&[
             u64::from(class),
             u64::from(msg_type),
-            class_octet(self.message_class()),
+            self.message_class() as u64,
         ])
     }
 }
@@ -152,15 +167,69 @@ impl Answer for SuaMessage {
     }
 }
 
-// The octet of a class.
-fn class_octet(class: MessageClass) -> u64 {
-    match class {
-        MessageClass::Management => 0,
-        MessageClass::Snm => 2,
-        MessageClass::Aspsm => 3,
-        MessageClass::Asptm => 4,
-        MessageClass::ConnectionLess => 7,
-        MessageClass::ConnectionOriented => 8,
-        MessageClass::Rkm => 9,
+// The count of digits, and all 255 places.
+impl Answer for GtDigits {
+    fn show(&self, line: &mut Line) -> fmt::Result {
+        self.count.show(line)?;
+        line.octets(&self.digits)
     }
+
+    fn show_refused(line: &mut Line) -> fmt::Result {
+        line.octets(&[0; 255])
+    }
+}
+
+impl Answer for GlobalTitle {
+    fn show(&self, line: &mut Line) -> fmt::Result {
+        line.word("ok")?;
+        title(Some(self), line)
+    }
+
+    fn show_refused(line: &mut Line) -> fmt::Result {
+        title(None, line)
+    }
+}
+
+impl Answer for SuaAddress {
+    fn show(&self, line: &mut Line) -> fmt::Result {
+        line.word("ok")?;
+        line.numbers(&[
+            u64::from(self.routing_indicator.value()),
+            u64::from(self.include_gt),
+            u64::from(self.include_pc),
+            u64::from(self.include_ssn),
+            u64::from(self.global_title.is_some()),
+        ])?;
+        title(self.global_title.as_ref(), line)?;
+        given(self.point_code.map(u64::from), line)?;
+        given(self.ssn.map(u64::from), line)?;
+        line.number(self.other_count as u64)
+    }
+
+    fn show_refused(line: &mut Line) -> fmt::Result {
+        line.numbers(&[0; 5])?;
+        title(None, line)?;
+        line.numbers(&[0; 5])
+    }
+}
+
+// Stores the fields of a title; zeros where there is none.
+fn title(title: Option<&GlobalTitle>, line: &mut Line) -> fmt::Result {
+    let Some(t) = title else {
+        line.numbers(&[0; 5])?;
+        return line.octets(&[0; 255]);
+    };
+    line.numbers(&[
+        u64::from(t.gti),
+        u64::from(t.translation_type),
+        u64::from(t.numbering_plan),
+        u64::from(t.nature_of_address),
+        t.count as u64,
+    ])?;
+    line.octets(&t.digits)
+}
+
+// Stores a flag and a number for what may be absent.
+fn given(given: Option<u64>, line: &mut Line) -> fmt::Result {
+    line.numbers(&[u64::from(given.is_some()), given.unwrap_or(0)])
 }

@@ -1,7 +1,11 @@
-// A call: its name, its numbers and its octet strings (docs/CALLS.md).
-ghost use Rattle.std.specs.Prelude.{◌<◌, ◌≤◌, length};
+// A call: its name, and what is left of its numbers and of its octet strings, which it takes in order (docs/CALLS.md).
+ghost use Rattle.std.specs.Prelude.{◌≤◌, length};
 
+use address::{GlobalTitle, RoutingIndicator, SuaAddress};
+use message::SuaMessage;
+use message::types::MessageType;
 use parameter::Place;
+use std::str;
 
 // A number of the list, taken modulo the width of what it is for; a flag is set where it is not 0.
 pub(crate) trait Number {
@@ -26,12 +30,6 @@ impl Number for u32 {
     }
 }
 
-impl Number for u64 {
-    fn of(n: u64) -> u64 {
-        n
-    }
-}
-
 impl Number for usize {
     fn of(n: u64) -> usize {
         n as usize
@@ -44,21 +42,21 @@ impl Number for bool {
     }
 }
 
-// A name, numbers, and octet strings: the string at place k ends where `ends` says at k + 1.
-#[derive(Clone, Copy)]
+// The octets of the strings stand one behind another. Codes that the call is given or lent are stored in `codes`.
+#[derive(Drop)]
 pub(crate) struct Call<'a> {
-    pub(crate) name: &'a [u8],
+    pub(crate) name: &'a str,
     numbers: &'a [u64],
     octets: &'a [u8],
-    ends: [usize; 6],
+    lengths: &'a [usize],
+    codes: &'a mut [u32],
 }
 
-// A table that a call is given, and where its numbers go on behind it.
+// A table that a call is given.
 #[derive(Clone, Copy)]
 pub(crate) struct Table {
     rows: [Place; 64],
     count: usize,
-    pub(crate) end: usize,
 }
 
 impl Table {
@@ -67,74 +65,65 @@ impl Table {
     }
 }
 
+// Takes the first item off a list; 0 where there is none.
+fn next<T: Copy + Default>(list: &mut &[T]) -> T {
+    list.split_off_first().copied().unwrap_or_default()
+}
+
 impl<'a> Call<'a> {
-    pub(crate) fn is(&self, name: &[u8]) -> bool {
-        self.name == name
+    // The next number, or 0.
+    pub(crate) fn number<N: Number>(&mut self) -> N {
+        N::of(next(&mut self.numbers))
     }
 
-    // The number at a place, or 0.
-    pub(crate) fn get<N: Number>(&self, i: usize) -> N {
-        N::of(self.numbers.get(i).copied().unwrap_or(0))
+    // The next octet string, or none.
+    pub(crate) fn string(&mut self) -> &'a [u8] {
+        let length = next(&mut self.lengths);
+        self.octets.split_off(..length).unwrap_or(&[])
     }
 
-    // The number behind the flag at a place, if that is set.
-    pub(crate) fn given<N: Number>(&self, i: usize) -> Option<N> {
-        if self.get(i) {
-            Some(self.get(i.saturating_add(1)))
-        } else {
-            None
+    // A flag, and a number, which is there if the flag is set.
+    pub(crate) fn given<N: Number + Drop>(&mut self) -> Option<N> {
+        let there: bool = self.number();
+        there.then_some(self.number())
+    }
+
+    // A flag, and an octet string, which is there if the flag is set.
+    pub(crate) fn given_string(&mut self) -> Option<&'a [u8]> {
+        let there: bool = self.number();
+        there.then_some(self.string())
+    }
+
+    // A count, and so many numbers.
+    fn list(&mut self) -> &'a [u64] {
+        let count: usize = self.number();
+        let there = self.numbers.len();
+        self.numbers.split_off(..count.min(there)).unwrap_or(&[])
+    }
+
+    // A list of codes.
+    pub(crate) fn codes(&mut self) -> &[u32] {
+        let count: usize = self.number();
+        let count = count.min(self.numbers.len());
+        for code in self.codes.iter_mut().take(count) {
+            *code = Number::of(next(&mut self.numbers));
         }
+        &self.codes[..count.min(self.codes.len())]
     }
 
-    // The octet string at a place, or none.
-    pub(crate) fn string(&self, k: usize) -> &'a [u8] {
-        let ends = self.ends.get(k).zip(self.ends.get(k.saturating_add(1)));
-        match ends {
-            Some((&from, &end)) => self.octets.get(from..end).unwrap_or(&[]),
-            None => &[],
-        }
+    // So many codes that the call is lent, each 60000 before the call.
+    pub(crate) fn lent_codes(&mut self, count: usize) -> &mut [u32] {
+        let count = count.min(self.codes.len());
+        let codes = &mut self.codes[..count];
+        codes.fill(60000);
+        codes
     }
 
-    // The octet string at a place, if the flag at another is set.
-    pub(crate) fn given_string(&self, i: usize, k: usize) -> Option<&'a [u8]> {
-        if self.get(i) {
-            Some(self.string(k))
-        } else {
-            None
-        }
-    }
-
-    // The numbers of the list at a place, which has its count first.
-    pub(crate) fn list(&self, at: usize) -> &'a [u64] {
-        let behind = self.numbers.get(at.saturating_add(1)..).unwrap_or(&[]);
-        let count: usize = self.get(at);
-        &behind[..count.min(behind.len())]
-    }
-
-    // The place behind the list at a place.
-    fn behind(&self, at: usize) -> usize {
-        at.saturating_add(1).saturating_add(self.list(at).len())
-    }
-
-    // Stores the codes of the list at a place, and answers them.
-    pub(crate) fn codes<'b>(&self, at: usize, codes: &'b mut [u32]) -> &'b [u32] {
-        let list = self.list(at);
-        let count = list.len().min(codes.len());
-        for (code, &n) in codes.iter_mut().zip(list) {
-            *code = Number::of(n);
-        }
-        &codes[..count]
-    }
-
-    // The table at a place: three lists, of tags, starts and lengths, of which the shortest says how many rows there are.
-    pub(crate) fn table(&self, at: usize) -> Table {
-        let starts_at = self.behind(at);
-        let lengths_at = self.behind(starts_at);
-        let end = self.behind(lengths_at);
-        let tags = self.list(at);
-        let starts = self.list(starts_at);
-        let lengths = self.list(lengths_at);
-        let count = tags.len().min(starts.len()).min(lengths.len());
+    // Three lists, of tags, starts and lengths, of which the shortest says how many rows there are.
+    pub(crate) fn table(&mut self) -> Table {
+        let tags = self.list();
+        let starts = self.list();
+        let lengths = self.list();
         let mut rows = [Place {
             tag: 0,
             start: 0,
@@ -148,137 +137,150 @@ impl<'a> Call<'a> {
                 length: Number::of(length),
             };
         }
-        Table { rows, count, end }
+        let count = tags.len().min(starts.len()).min(lengths.len());
+        Table { rows, count }
     }
-}
 
-// A text without the mark that ends it.
-pub(crate) fn without(text: &[u8], mark: u8) -> &[u8] {
-    text.strip_suffix(&[mark]).unwrap_or(text)
-}
-
-// The value of a decimal digit.
-fn decimal_digit(character: u8) -> u64
-    ensures { result < 10 }
-{
-    match character {
-        b'0'..=b'9' => u64::from(character - b'0'),
-        _ => 0,
+    // Digits, in front of zeros.
+    pub(crate) fn digits(&mut self) -> [u8; 255] {
+        let mut digits = [0u8; 255];
+        for (digit, &octet) in digits.iter_mut().zip(self.string()) {
+            *digit = octet;
+        }
+        digits
     }
-}
 
-// A number, below 2^64, with one decimal digit more.
-fn with_digit(n: u64, digit: u64) -> u64
-    requires { digit < 10 }
-{
-    if n < 1844674407370955161 {
-        n * 10 + digit
-    } else {
-        18446744073709551610u64.wrapping_add(digit)
+    pub(crate) fn title(&mut self) -> GlobalTitle {
+        GlobalTitle::new(
+            self.number(),
+            self.number(),
+            self.number(),
+            self.number(),
+            self.digits(),
+            self.number(),
+        )
     }
-}
 
-// The number of decimal digits.
-fn decimal(digits: &[u8]) -> u64 {
-    let mut n = 0;
-    for &c in digits {
-        n = with_digit(n, decimal_digit(c));
+    fn given_title(&mut self) -> Option<GlobalTitle> {
+        let there: bool = self.number();
+        there.then_some(self.title())
     }
-    n
-}
 
-// The value of a hexadecimal digit.
-fn hex_digit(character: u8) -> u8
-    ensures { result < 16 }
-{
-    match character {
-        b'0'..=b'9' => character - b'0',
-        b'a'..=b'f' => character - b'a' + 10,
-        _ => 0,
+    // The routing indicator of a number modulo 5.
+    fn routing(&mut self) -> RoutingIndicator {
+        RoutingIndicator::from_u16((next(&mut self.numbers) % 5) as u16).unwrap_or(
+            RoutingIndicator::Reserved,
+        )
     }
-}
 
-// The octet of the first two hexadecimal digits.
-fn hex(digits: &[u8]) -> u8 {
-    let high = hex_digit(digits.first().copied().unwrap_or(0));
-    let low = hex_digit(digits.get(1).copied().unwrap_or(0));
-    high * 16 + low
-}
-
-// A text's part before a `*`, and the number behind it; 1 where there is none.
-fn times(text: &[u8]) -> (&[u8], u64) {
-    match text.iter().position(|&c| c == b'*') {
-        Some(star) => (&text[..star], decimal(&text[star + 1..])),
-        None => (text, 1),
-    }
-}
-
-// Stores an item so many times from a place on, as often as there is room, and answers the next place.
-fn put<T: Copy>(item: T, count: u64, at: usize, room: &mut [T]) -> usize {
-    let from = at.min(room.len());
-    let left = room.len() - from;
-    let n = left.min(usize::try_from(count).unwrap_or(left));
-    for place in &mut room[from..from + n] {
-        *place = item;
-    }
-    from + n
-}
-
-// Stores the octets of a piece, pairs of digits, or one pair and how many times; answers the next place.
-fn put_piece(piece: &[u8], at: usize, octets: &mut [u8]) -> usize {
-    if piece.contains(&b'*') {
-        let (pair, count) = times(piece);
-        return put(hex(pair), count, at, octets);
-    }
-    let mut to = at;
-    for pair in piece.chunks_exact(2) {
-        to = put(hex(pair), 1, to, octets);
-    }
-    to
-}
-
-// Stores the octets of pieces with `+` between them, and answers the next place.
-fn put_pieces(pieces: &[u8], at: usize, octets: &mut [u8]) -> usize {
-    let mut to = at;
-    for piece in pieces.split(|&c| c == b'+') {
-        to = put_piece(piece, to, octets);
-    }
-    to
-}
-
-// Stores the numbers of words, N or N*C, and their octets, x and pieces, one string behind another, and where each string ends;
-// answers how many numbers there are.
-fn arguments(words: &[u8], numbers: &mut [u64], octets: &mut [u8], ends: &mut [usize; 6]) -> usize {
-    let mut count = 0;
-    let mut strings = 0;
-    for ended in words.split_inclusive(|&c| c == b' ') {
-        let word = without(ended, b' ');
-        if let Some(pieces) = word.strip_prefix(b"x") {
-            let from = ends.get(strings).copied().unwrap_or(0);
-            strings = strings.min(8) + 1;
-            let end = put_pieces(pieces, from, octets);
-            if let Some(place) = ends.get_mut(strings) {
-                *place = end;
-            }
-        } else {
-            let (number, times) = times(word);
-            count = put(decimal(number), times, count, numbers);
+    pub(crate) fn address(&mut self) -> SuaAddress {
+        SuaAddress {
+            routing_indicator: self.routing(),
+            include_gt: self.number(),
+            include_pc: self.number(),
+            include_ssn: self.number(),
+            global_title: self.given_title(),
+            point_code: self.given(),
+            ssn: self.given(),
+            other_count: self.number(),
         }
     }
-    count
+
+    // The message of a count, whose type is not looked at.
+    pub(crate) fn message(&mut self) -> SuaMessage {
+        SuaMessage {
+            message_type: MessageType::Cldt,
+            count: self.number(),
+        }
+    }
+}
+
+// Items that are stored one behind another, as many as there is room for.
+#[derive(Drop)]
+struct Store<'a, T> {
+    room: &'a mut [T],
+    count: usize,
+}
+
+impl<'a, T: Copy> Store<'a, T> {
+    fn new(room: &'a mut [T]) -> Store<'a, T> {
+        Store { room, count: 0 }
+    }
+
+    // Stores an item so many times.
+    fn put(&mut self, item: T, times: u64) {
+        let from = self.count.min(self.room.len());
+        let left = self.room.len() - from;
+        let n = left.min(usize::try_from(times).unwrap_or(left));
+        for place in &mut self.room[from..from + n] {
+            *place = item;
+        }
+        self.count = from + n;
+    }
+
+    fn stored(self) -> &'a [T] {
+        let Store { room, count } = self;
+        room.get(..count).unwrap_or(&[])
+    }
+}
+
+fn decimal(digits: &str) -> u64 {
+    digits.parse().unwrap_or(0)
+}
+
+fn hexadecimal(digits: &str) -> u8 {
+    u8::from_str_radix(digits, 16).unwrap_or(0)
+}
+
+// Stores the octets of pairs of digits, or of one pair, a `*` and how many times.
+fn put_piece(piece: &str, octets: &mut Store<u8>) {
+    if let Some((pair, times)) = piece.split_once('*') {
+        return octets.put(hexadecimal(pair), decimal(times));
+    }
+    for pair in piece.as_bytes().chunks_exact(2) {
+        octets.put(hexadecimal(str::from_utf8(pair).unwrap_or("")), 1);
+    }
+}
+
+// Stores the octets of pieces with `+` between them, and how many they are.
+fn put_string(pieces: &str, octets: &mut Store<u8>, lengths: &mut Store<usize>) {
+    let before = octets.count;
+    for piece in pieces.split('+') {
+        put_piece(piece, octets);
+    }
+    lengths.put(octets.count.saturating_sub(before), 1);
+}
+
+// Stores a number, or one that stands in front of a `*` and how many times.
+fn put_number(word: &str, numbers: &mut Store<u64>) {
+    let (number, times) = word.split_once('*').unwrap_or((word, "1"));
+    numbers.put(decimal(number), decimal(times));
 }
 
 // The call of a line, whose arguments are stored in what is lent. A first word `beyond` is skipped.
-pub(crate) fn read<'a>(text: &'a [u8], numbers: &'a mut [u64], octets: &'a mut [u8]) -> Call<'a> {
-    let given = text.strip_prefix(b"beyond ").unwrap_or(text);
-    let end = given.iter().position(|&c| c == b' ').unwrap_or(given.len());
-    let words = given.get(end.saturating_add(1)..).unwrap_or(&[]);
-    let mut ends = [0usize; 6];
-    let count = arguments(words, numbers, octets, &mut ends);
+pub(crate) fn read<'a>(
+    line: &'a str,
+    numbers: &'a mut [u64],
+    octets: &'a mut [u8],
+    lengths: &'a mut [usize],
+    codes: &'a mut [u32],
+) -> Call<'a> {
+    let line = line.strip_prefix("beyond ").unwrap_or(line);
+    let (name, words) = line.split_once(' ').unwrap_or((line, ""));
+    let mut numbers = Store::new(numbers);
+    let mut octets = Store::new(octets);
+    let mut lengths = Store::new(lengths);
+    for word in words.split_whitespace() {
+        match word.strip_prefix('x') {
+            Some(pieces) => put_string(pieces, &mut octets, &mut lengths),
+            None => put_number(word, &mut numbers),
+        }
+    }
     Call {
-        name: &given[..end],
-        numbers: numbers.get(..count).unwrap_or(&[]),
-        octets,
-        ends,
+        name,
+        numbers: numbers.stored(),
+        octets: octets.stored(),
+        lengths: lengths.stored(),
+        codes,
     }
 }

@@ -12,7 +12,7 @@ pub(crate) struct Line<'a> {
 
 impl<'a> fmt::Write for Line<'a> {
     fn write_str(&mut self, s: &str) -> fmt::Result {
-        self.text(s.as_bytes());
+        self.text(s);
         Ok(())
     }
 }
@@ -41,8 +41,8 @@ impl<'a> Line<'a> {
     }
 
     // Stores characters.
-    pub(crate) fn text(&mut self, characters: &[u8]) {
-        for &character in characters {
+    fn text(&mut self, characters: &str) {
+        for &character in characters.as_bytes() {
             self.octet(character);
         }
     }
@@ -56,7 +56,7 @@ impl<'a> Line<'a> {
     }
 
     // Stores a word.
-    pub(crate) fn word(&mut self, word: &[u8]) -> fmt::Result {
+    pub(crate) fn word(&mut self, word: &str) -> fmt::Result {
         self.space();
         self.text(word);
         Ok(())
@@ -78,13 +78,13 @@ impl<'a> Line<'a> {
 
     // Stores `ok` and numbers.
     pub(crate) fn ok(&mut self, list: &[u64]) -> fmt::Result {
-        self.word(b"ok")?;
+        self.word("ok")?;
         self.numbers(list)
     }
 
     // Stores what stands between two answers; the next word begins an answer.
     pub(crate) fn next_answer(&mut self) {
-        self.text(b" ; ");
+        self.text(" ; ");
         self.begun = false;
     }
 
@@ -105,7 +105,7 @@ impl<'a> Line<'a> {
 
     // Stores octets as a word: the runs of equal ones.
     pub(crate) fn octets(&mut self, octets: &[u8]) -> fmt::Result {
-        self.word(b"x")?;
+        self.word("x")?;
         let mut before = None;
         for run in octets.chunk_by(|a, b| a == b) {
             self.run(run, before)?;
@@ -117,13 +117,14 @@ impl<'a> Line<'a> {
     // Stores numbers of items, as a word that begins with a letter.
     pub(crate) fn column<T, F: Fn(&T) -> u64>(
         &mut self,
-        letter: u8,
+        letter: char,
         items: &[T],
         number: F,
     ) -> fmt::Result
         requires { F.IsAlwaysCallable number }
     {
-        self.word(&[letter])?;
+        self.space();
+        write!(self, "{letter}")?;
         for (i, item) in items.iter().enumerate() {
             if 0 < i {
                 self.octet(b',');

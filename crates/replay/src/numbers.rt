@@ -1,12 +1,11 @@
-// The calls that answer numbers alone.
-use crate::answers::Answer;
+// The calls that are lent nothing.
 use crate::call::Call;
-use crate::line::Line;
-use crate::records::address;
-use address::RoutingIndicator;
+use crate::reply::Reply;
+use crate::tables;
 use address::rewrite::rewritten_length;
+use address::{GlobalTitle, RoutingIndicator};
 use bcd::error::Refusal;
-use bcd::gt_digits_length;
+use bcd::{decode_gt_digits, gt_digits_length};
 use form::settled_length;
 use message::header::CommonHeader;
 use message::types::{MessageClass, MessageType};
@@ -14,11 +13,12 @@ use parameter::{Cursor, as_u32, wire_length};
 use std::fmt;
 
 // The parameter at a position, and the next position.
-fn step(at: usize, bytes: &[u8], line: &mut Line) -> fmt::Result {
-    match (Cursor { at }).step(bytes) {
-        Ok(Some((place, next))) => (place, next.at).show(line),
-        Ok(None) => line.word(b"end"),
-        Err(refusal) => refusal.show(line),
+fn step(call: &mut Call, reply: &mut Reply) -> fmt::Result {
+    let cursor = Cursor { at: call.number() };
+    match cursor.step(call.string()) {
+        Ok(Some((place, next))) => reply.show((place, next.at)),
+        Ok(None) => reply.line.word("end"),
+        Err(refusal) => reply.show(refusal),
     }
 }
 
@@ -26,20 +26,22 @@ fn routing_indicator(value: u16) -> Result<u16, Refusal> {
     Ok(RoutingIndicator::from_u16(value)?.value())
 }
 
-pub(crate) fn answer(call: &Call, line: &mut Line) -> fmt::Result {
-    let a = call.string(0);
+pub(crate) fn answer(call: &mut Call, reply: &mut Reply) -> fmt::Result {
     match call.name {
-        b"gt_digits_length" => gt_digits_length(a).show(line),
-        b"parameter_decode" => parameter::decode(a).show(line),
-        b"wire_length" => wire_length(call.get(0), call.get(1)).show(line),
-        b"as_u32" => as_u32(a).show(line),
-        b"step" => step(call.get(0), a, line),
-        b"routing_indicator" => routing_indicator(call.get(0)).show(line),
-        b"address_indicator" => address(call, 0, a).address_indicator().show(line),
-        b"rewritten_length" => rewritten_length(call.get(0), a).show(line),
-        b"class" => MessageClass::from_u8(call.get(0)).show(line),
-        b"class_type" => MessageType::from_class_type(call.get(0), call.get(1)).show(line),
-        b"header_decode" => CommonHeader::decode(a).show(line),
-        _ => settled_length(a).show(line),
+        "decode_gt_digits" => reply.show(decode_gt_digits(call.string(), call.number())),
+        "gt_digits_length" => reply.show(gt_digits_length(call.string())),
+        "parameter_decode" => reply.show(parameter::decode(call.string())),
+        "wire_length" => reply.show(wire_length(call.number(), call.number())),
+        "as_u32" => reply.show(as_u32(call.string())),
+        "step" => step(call, reply),
+        "routing_indicator" => reply.show(routing_indicator(call.number())),
+        "title_decode" => reply.show(GlobalTitle::decode(call.string())),
+        "address_indicator" => reply.show(call.address().address_indicator()),
+        "rewritten_length" => reply.show(rewritten_length(call.number(), call.string())),
+        "class" => reply.show(MessageClass::from_u8(call.number())),
+        "class_type" => { reply.show(MessageType::from_class_type(call.number(), call.number())) }
+        "header_decode" => reply.show(CommonHeader::decode(call.string())),
+        "settled_length" => reply.show(settled_length(call.string())),
+        _ => tables::answer(call, reply),
     }
 }

@@ -1,14 +1,13 @@
-// The calls that are given a table, or lent one, and write no buffer of octets.
-ghost use Rattle.std.specs.Prelude.{◌≤◌, length};
-
+// The calls that are given a table, or lent one or codes, and write no octets.
 use crate::answers::Answer;
+use crate::buffers;
 use crate::call::Call;
 use crate::line::Line;
-use crate::records::address_read;
+use crate::reply::Reply;
 use address::SuaAddress;
+use bcd::error::Refusal;
 use message::SuaMessage;
 use message::point_codes::unpack_affected_point_codes;
-use message::types::MessageType;
 use parameter::Place;
 use parameter::table::{Records, decode_parameters};
 use std::fmt;
@@ -24,10 +23,8 @@ struct Lent {
 }
 
 impl Lent {
-    // As the three numbers from a place on say.
-    fn new(call: &Call, at: usize) -> Lent
-        requires { at ≤ 100 }
-    {
+    // As the next three numbers say.
+    fn new(call: &mut Call) -> Lent {
         let empty = Place {
             tag: 60000,
             start: 60000,
@@ -35,9 +32,9 @@ impl Lent {
         };
         Lent {
             rows: [empty; 64],
-            tags: call.get::<usize>(at).min(64),
-            starts: call.get::<usize>(at + 1).min(64),
-            lengths: call.get::<usize>(at + 2).min(64),
+            tags: call.number(),
+            starts: call.number(),
+            lengths: call.number(),
         }
     }
 
@@ -45,141 +42,147 @@ impl Lent {
         let n = self.tags.min(self.starts).min(self.lengths).min(64);
         &mut self.rows[..n]
     }
+}
 
-    // Stores the three columns.
+// The three columns.
+impl Answer for Lent {
     fn show(&self, line: &mut Line) -> fmt::Result {
-        line.column(
-            b't',
-            &self.rows[..self.tags.min(64)],
-            |row| u64::from(row.tag),
-        )?;
-        line.column(
-            b's',
-            &self.rows[..self.starts.min(64)],
-            |row| row.start as u64,
-        )?;
-        line.column(
-            b'l',
-            &self.rows[..self.lengths.min(64)],
-            |row| row.length as u64,
-        )
+        let rows = &self.rows;
+        line.column('t', &rows[..self.tags.min(64)], |row| u64::from(row.tag))?;
+        line.column('s', &rows[..self.starts.min(64)], |row| row.start as u64)?;
+        line.column('l', &rows[..self.lengths.min(64)], |row| row.length as u64)
     }
 }
 
-// The calls that read octets into a table.
-pub(crate) fn read(call: &Call, line: &mut Line) -> fmt::Result {
-    let a = call.string(0);
-    let mut lent = Lent::new(call, 0);
-    match call.name {
-        b"decode_parameters" => decode_parameters(a, lent.rows()).show(line)?,
-        b"message_decode" => SuaMessage::decode(a, lent.rows()).show(line)?,
-        _ => address_read(&SuaAddress::decode(a, lent.rows()), line)?,
-    }
-    lent.show(line)
+// A call that reads octets into a table.
+fn read<T: Answer + Drop, F: FnOnce(&[u8], &mut [Place]) -> T>(
+    call: &mut Call,
+    reply: &mut Reply,
+    decode: F,
+) -> fmt::Result
+    requires { F.IsAlwaysCallable decode }
+{
+    let mut lent = Lent::new(call);
+    reply.show(decode(call.string(), lent.rows()))?;
+    reply.show(lent)
 }
 
-// The message that the accessors are called on.
-fn message(call: &Call) -> SuaMessage {
-    SuaMessage {
-        message_type: MessageType::Cldt,
-        count: call.get(0),
-    }
+// A call on the records of a message.
+fn accessed<T: Answer + Drop, F: FnOnce(SuaMessage, Records) -> T>(
+    call: &mut Call,
+    reply: &mut Reply,
+    access: F,
+) -> fmt::Result
+    requires { F.IsAlwaysCallable access }
+{
+    let message = call.message();
+    let table = call.table();
+    let lent = Records::new(call.string(), table.rows());
+    reply.show(access(message, lent))
 }
 
-// The codes that a call is lent, as many as the number at a place says, each 60000 before the call.
-fn lent_codes<'a>(call: &Call, at: usize, codes: &'a mut [u32]) -> &'a mut [u32] {
-    let n = call.get::<usize>(at).min(codes.len());
-    let lent = &mut codes[..n];
-    lent.fill(60000);
-    lent
+// A call that reads an address of a message, with a table lent for its others.
+fn address<F: FnOnce(SuaMessage, Records, &mut [Place]) -> Result<SuaAddress, Refusal>>(
+    call: &mut Call,
+    reply: &mut Reply,
+    access: F,
+) -> fmt::Result
+    requires { F.IsAlwaysCallable access }
+{
+    let message = call.message();
+    let mut others = Lent::new(call);
+    let table = call.table();
+    let lent = Records::new(call.string(), table.rows());
+    reply.show(access(message, lent, others.rows()))?;
+    reply.show(others)
 }
 
-// The calls that store codes, or are given some as a set.
-pub(crate) fn codes(call: &Call, codes: &mut [u32], line: &mut Line) -> fmt::Result {
-    let a = call.string(0);
-    if call.is(b"contexts_in") {
-        let table = call.table(1);
-        let lent = Records::new(a, table.rows());
-        return message(call)
-            .contexts_in(lent, call.codes(table.end, codes))
-            .show(line);
-    }
-    let room;
-    if call.is(b"affected_point_codes") {
-        let table = call.table(2);
-        room = lent_codes(call, 1, codes);
-        message(call)
-            .affected_point_codes(Records::new(a, table.rows()), room)
-            .show(line)?;
-    } else {
-        room = lent_codes(call, 0, codes);
-        unpack_affected_point_codes(a, room).show(line)?;
-    }
-    line.column(b'c', room, |&code| u64::from(code))
-}
-
-// An address that an accessor reads, with the table lent for its others.
-fn address(call: &Call, line: &mut Line) -> fmt::Result {
-    let table = call.table(4);
-    let lent = Records::new(call.string(0), table.rows());
-    let mut others = Lent::new(call, 1);
-    let m = message(call);
-    let read = match call.name {
-        b"source_address" => m.source_address(lent, others.rows()),
-        _ => m.destination_address(lent, others.rows()),
-    };
-    address_read(&read, line)?;
-    others.show(line)
-}
-
-// All handling fields, each answer for itself.
-fn screen(call: &Call, line: &mut Line) -> fmt::Result {
-    let table = call.table(7);
-    let lent = Records::new(call.string(0), table.rows());
-    let mut sources = Lent::new(call, 1);
-    let mut destinations = Lent::new(call, 4);
-    let screen = message(call).screen(lent, sources.rows(), destinations.rows());
-    screen.routing_context.show(line)?;
-    line.next_answer();
-    screen.protocol_class.show(line)?;
-    line.next_answer();
-    screen.sequence_control.show(line)?;
-    line.next_answer();
-    screen.ss7_hop_count.show(line)?;
-    line.next_answer();
-    screen.sccp_cause.show(line)?;
-    line.next_answer();
-    address_read(&screen.source_address, line)?;
-    sources.show(line)?;
-    line.next_answer();
-    address_read(&screen.destination_address, line)?;
-    destinations.show(line)
+fn find_parameter(call: &mut Call, reply: &mut Reply) -> fmt::Result {
+    let count = call.number();
+    let tag = call.number();
+    let table = call.table();
+    let lent = Records::new(call.string(), table.rows());
+    reply.show(lent.find_parameter(count, tag))
 }
 
 // The place of the data, and the data.
-fn data(call: &Call, line: &mut Line) -> fmt::Result {
-    let table = call.table(1);
-    let lent = Records::new(call.string(0), table.rows());
-    message(call).data(lent).show(line)?;
-    line.octets(message(call).data_part(lent))
+fn data(call: &mut Call, reply: &mut Reply) -> fmt::Result {
+    let message = call.message();
+    let table = call.table();
+    let lent = Records::new(call.string(), table.rows());
+    reply.show(message.data(lent))?;
+    reply.line.octets(message.data_part(lent))
 }
 
-// The calls that are given a table, and answer numbers or an address.
-pub(crate) fn answer(call: &Call, line: &mut Line) -> fmt::Result {
-    let a = call.string(0);
-    let table = call.table(if call.is(b"find_parameter") { 2 } else { 1 });
-    let lent = Records::new(a, table.rows());
-    let m = message(call);
+fn contexts_in(call: &mut Call, reply: &mut Reply) -> fmt::Result {
+    let message = call.message();
+    let table = call.table();
+    let lent = Records::new(call.string(), table.rows());
+    reply.show(message.contexts_in(lent, call.codes()))
+}
+
+fn unpack(call: &mut Call, reply: &mut Reply) -> fmt::Result {
+    let count = call.number();
+    let value = call.string();
+    let codes = call.lent_codes(count);
+    reply.show(unpack_affected_point_codes(value, codes))?;
+    reply.line.column('c', codes, |&code| u64::from(code))
+}
+
+fn affected_point_codes(call: &mut Call, reply: &mut Reply) -> fmt::Result {
+    let message = call.message();
+    let count = call.number();
+    let table = call.table();
+    let lent = Records::new(call.string(), table.rows());
+    let codes = call.lent_codes(count);
+    reply.show(message.affected_point_codes(lent, codes))?;
+    reply.line.column('c', codes, |&code| u64::from(code))
+}
+
+// All handling fields, each answer for itself.
+fn screen(call: &mut Call, reply: &mut Reply) -> fmt::Result {
+    let message = call.message();
+    let mut sources = Lent::new(call);
+    let mut destinations = Lent::new(call);
+    let table = call.table();
+    let lent = Records::new(call.string(), table.rows());
+    let screen = message.screen(lent, sources.rows(), destinations.rows());
+    reply.show(screen.routing_context)?;
+    reply.line.next_answer();
+    reply.show(screen.protocol_class)?;
+    reply.line.next_answer();
+    reply.show(screen.sequence_control)?;
+    reply.line.next_answer();
+    reply.show(screen.ss7_hop_count)?;
+    reply.line.next_answer();
+    reply.show(screen.sccp_cause)?;
+    reply.line.next_answer();
+    reply.show(screen.source_address)?;
+    reply.show(sources)?;
+    reply.line.next_answer();
+    reply.show(screen.destination_address)?;
+    reply.show(destinations)
+}
+
+pub(crate) fn answer(call: &mut Call, reply: &mut Reply) -> fmt::Result {
     match call.name {
-        b"parameters_length" => lent.parameters_length(m.count).show(line),
-        b"find_parameter" => lent.find_parameter(m.count, call.get(1)).show(line),
-        b"routing_context" => m.routing_context(lent).show(line),
-        b"sequence_control" => m.sequence_control(lent).show(line),
-        b"protocol_class" => m.protocol_class(lent).show(line),
-        b"ss7_hop_count" => m.ss7_hop_count(lent).show(line),
-        b"sccp_cause" => m.sccp_cause(lent).show(line),
-        b"data" => data(call, line),
-        b"screen" => screen(call, line),
-        _ => address(call, line),
+        "decode_parameters" => read(call, reply, decode_parameters),
+        "message_decode" => read(call, reply, SuaMessage::decode),
+        "address_decode" => read(call, reply, SuaAddress::decode),
+        "parameters_length" => accessed(call, reply, |m, lent| lent.parameters_length(m.count)),
+        "find_parameter" => find_parameter(call, reply),
+        "routing_context" => accessed(call, reply, SuaMessage::routing_context),
+        "sequence_control" => accessed(call, reply, SuaMessage::sequence_control),
+        "protocol_class" => accessed(call, reply, SuaMessage::protocol_class),
+        "ss7_hop_count" => accessed(call, reply, SuaMessage::ss7_hop_count),
+        "sccp_cause" => accessed(call, reply, SuaMessage::sccp_cause),
+        "source_address" => address(call, reply, SuaMessage::source_address),
+        "destination_address" => { address(call, reply, SuaMessage::destination_address) }
+        "data" => data(call, reply),
+        "screen" => screen(call, reply),
+        "contexts_in" => contexts_in(call, reply),
+        "unpack_affected_point_codes" => unpack(call, reply),
+        "affected_point_codes" => affected_point_codes(call, reply),
+        _ => buffers::answer(call, reply),
     }
 }

@@ -1,5 +1,5 @@
 // Digits written: alone, in a title, and in an address with that title and an SSN.
-ghost use Rattle.std.specs.Prelude.{◌<◌, ◌≤◌, length};
+ghost use Rattle.std.specs.Prelude.{◌≤◌};
 
 use crate::sums::Sum;
 use address::{GlobalTitle, SuaAddress};
@@ -34,67 +34,52 @@ fn answered(sum: Sum, i: u32, answer: Result<usize, Refusal>, out: &[u8]) -> Sum
     }
 }
 
-// The digits alone, which end at a place. The octet behind them is altered, so that no round is given what an earlier one was.
-fn alone(count: u32, end: usize, octets: &mut [u8], out: &mut [u8]) -> Sum
-    requires le_end { 1 ≤ end }
-    requires end_in_bounds { end < length octets.old }
+// The sum of so many rounds. Each is given the lowest octet of its number, so that none does what an earlier one did.
+fn summed<F: FnMut(u8, &mut [u8]) -> Result<usize, Refusal>>(
+    count: u32,
+    out: &mut [u8],
+    mut write: F,
+) -> Sum
+    requires { F.IsAlwaysCallable write }
 {
     let mut sum = Sum(0);
     for i in 0..count {
-        let answer = encode_gt_digits(&octets[1..end], out);
+        let answer = write((i % 256) as u8, out);
         sum = answered(sum, i, answer, out);
-        octets[end] = (i % 256) as u8;
-    }
-    sum
-}
-
-// A title, whose translation type is altered.
-fn in_title(count: u32, mut title: GlobalTitle, out: &mut [u8]) -> Sum {
-    let mut sum = Sum(0);
-    for i in 0..count {
-        title.translation_type = (i % 256) as u8;
-        let answer = title.encode(out);
-        sum = answered(sum, i, answer, out);
-    }
-    sum
-}
-
-// An address, whose SSN is altered.
-fn in_address(count: u32, mut address: SuaAddress, out: &mut [u8]) -> Sum {
-    let mut sum = Sum(0);
-    for i in 0..count {
-        address.ssn = Some((i % 256) as u8);
-        let answer = address.encode(Records::new(b"", &[]), out);
-        sum = answered(sum, i, answer, out);
-    }
-    sum
-}
-
-// The loop alone.
-fn nothing(count: u32, end: usize, out: &[u8]) -> Sum {
-    let mut sum = Sum(0);
-    for i in 0..count {
-        sum = answered(sum, i, Ok(end), out);
     }
     sum
 }
 
 // The sum of so many rounds of a work on the first n octets: how long the output is, and at most 255 digits. 0 where they are
-// not that.
+// not that. What is altered is the octet behind the digits, the title's translation type or the address's SSN.
 pub(crate) fn rounds(work: Work, count: u32, n: usize, octets: &mut [u8; 8192]) -> u64 {
     if n < 1 || 256 < n {
         return 0;
     }
-    let mut digits = [0u8; 255];
-    digits[..n - 1].copy_from_slice(&octets[1..n]);
-    let title = GlobalTitle::e164(digits, n - 1);
     let mut room = [0u8; 255];
     let out = &mut room[..usize::from(octets[0])];
+    let (given, behind) = octets.split_at_mut(n);
+    let given = &given[1..];
+    let mut digits = [0u8; 255];
+    digits[..n - 1].copy_from_slice(given);
+    let mut title = GlobalTitle::e164(digits, n - 1);
+    let mut address = SuaAddress::with_gt(title, Some(8));
     let sum = match work {
-        Work::Alone => alone(count, n, octets, out),
-        Work::Title => in_title(count, title, out),
-        Work::Address => in_address(count, SuaAddress::with_gt(title, Some(8)), out),
-        Work::Nothing => nothing(count, n, out),
+        Work::Alone => summed(count, out, |octet, out| {
+            if let Some(first) = behind.first_mut() {
+                *first = octet;
+            }
+            encode_gt_digits(given, out)
+        }),
+        Work::Title => summed(count, out, |octet, out| {
+            title.translation_type = octet;
+            title.encode(out)
+        }),
+        Work::Address => summed(count, out, |octet, out| {
+            address.ssn = Some(octet);
+            address.encode(Records::new(b"", &[]), out)
+        }),
+        Work::Nothing => summed(count, out, |_, _| Ok(n)),
     };
     sum.0
 }

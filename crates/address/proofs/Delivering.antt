@@ -153,7 +153,7 @@ module _ {v : List ℕ} {s : Parts} {total : ℕ} (p : Plan with_unknown v s tot
   abbrev pub subs : List Param
   subs = param_of sub_one (kept_sub v s.ssn)
 
-  abbrev others : List Param
+  abbrev pub others : List Param
   others = others_of v p.read.known.places
 
   pub planned-length : 4 + run_length (planned-pieces p).titled + run_length codes + run_length subs + run_length others ≡ total

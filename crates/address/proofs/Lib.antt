@@ -25,5 +25,6 @@ pub mod GivenParts
 pub mod Encoding
 pub mod TitleFirst
 pub mod TableBack
+pub mod Numbers
 pub mod Held
 pub mod Standing

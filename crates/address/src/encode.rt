@@ -134,7 +134,7 @@ impl SuaAddress {
     {
         let routing = self.routing_indicator.value().to_be_bytes();
         let indicator = self.address_indicator().to_be_bytes();
-        octets::copy(&[routing[0], routing[1], indicator[0], indicator[1]], out);
+        out[..4].copy_from_slice(&[routing[0], routing[1], indicator[0], indicator[1]]);
     }
 
     // Writes the title, if it is there: its value in place, and tag, length and padding round it. 9.

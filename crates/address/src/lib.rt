@@ -8,8 +8,8 @@ pub mod parts;
 pub mod rewrite;
 pub mod title;
 
-ghost use Rattle.std.specs.Prelude.{◌≡◌, ◌+◌, ◌≤◌, []};
-ghost use Rattle.bcd.specs.Outcome.{pick, mapped};
+ghost use Rattle.std.specs.Prelude.{◌≡◌, []};
+ghost use Rattle.bcd.specs.Outcome.{mapped};
 ghost use Rattle.bcd.specs.Answers.{outcome_of};
 ghost use Rattle.address.specs.Address.{routing_in, indicator};
 ghost use Rattle.address.specs.Records.{routing_value, address_of, title_record, with_gt, with_ssn_pc};
@@ -133,13 +133,6 @@ pub struct SuaAddress {
     pub other_count: usize,
 }
 
-// A bit of the address indicator, or 0 where it is not set.
-fn flag(set: bool, bit: u16) -> u16
-    ensures { (result ≡ pick set bit 0) × (result ≤ bit) }
-{
-    if set { bit } else { 0 }
-}
-
 impl SuaAddress {
     // An address that is routed on its title, with an SSN or without.
     pub fn with_gt(gt: GlobalTitle, ssn: Option<u8>) -> SuaAddress
@@ -178,8 +171,8 @@ impl SuaAddress {
     pub fn address_indicator(&self) -> u16
         ensures { result ≡ indicator (address_of self.now []) }
     {
-        flag(self.include_ssn, 0x0001)
-            + flag(self.include_pc, 0x0002)
-            + flag(self.include_gt, 0x0004)
+        u16::from(self.include_ssn)
+            + 2 * u16::from(self.include_pc)
+            + 4 * u16::from(self.include_gt)
     }
 }

@@ -90,7 +90,7 @@ fn write_head(value: &[u8], out: &mut [u8])
     requires in_bounds_2 { 4 ≤ length out.old }
     ensures { out.new ≡ head_octets value.now ++ drop 4 out.old }
 {
-    octets::copy(&[value[0], value[1], 0, value[3] % 8], out);
+    out[..4].copy_from_slice(&[value[0], value[1], 0, value[3] % 8]);
 }
 
 impl<'a> Interpreted<'a> {

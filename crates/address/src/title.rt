@@ -63,7 +63,7 @@ impl GlobalTitle {
             self.numbering_plan,
             self.nature_of_address,
         ];
-        octets::copy(&head, out);
+        out[..8].copy_from_slice(&head);
         Ok(length)
     }
 }

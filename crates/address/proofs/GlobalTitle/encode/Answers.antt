@@ -1,9 +1,8 @@
 -- `address::GlobalTitle::encode` meets its contract.
 use mathlib.Core.Path.{◌≡◌, ap}
 use mathlib.Core.List.{[], ◌∷◌}
-use Prim.Native.Nat.{ℕ, ◌+◌, ◌-◌, ◌/◌, ◌≤◌}
+use Prim.Native.Nat.{ℕ, ◌+◌, ◌/◌, ◌≤◌}
 use native.Mathlib.Omega.{arith}
-use borrow.Rule.Slice.PartMut.{same_len_mid}
 use lib.ListN.{length}
 use Rattle.bcd.specs.Outcome.{Outcome, refused, after}
 use Rattle.bcd.proofs.Results.{exit}
@@ -41,4 +40,4 @@ returns c =
     let size : c.div_ceil-length.result ≡ (c.args.self.now.count + 1) / 2 = omega (arith, c.div_ceil-length.ensures) in
     rw size
     (record_put c.args.self.now c.if-count-gt255.false long c.args.out.now (omega (arith, size, c.if-out-length.false)) _ _ _ c.in_ok-encode_gt_digits.ensures
-    (c.copy.ensures.whole (omega (arith, same_len_mid 8 (length c.args.out.now - 8) c.args.out.now c.encode_gt_digits.new.out c.encode_gt_digits.auto.out, c.if-out-length.false))))
+    (rw c.copy_from_slice.ensures.after))

@@ -6,10 +6,10 @@ use native.Mathlib.Omega.{arith}
 use lib.ListN.{length, take, drop}
 use borrow.Rule.Slice.PartMut.{mid_of, same_len_mid}
 use Rattle.std.specs.Prelude.{Option, option_map}
-use Rattle.bcd.specs.Outcome.{Outcome, accepted, mapped, deliver}
+use Rattle.bcd.specs.Outcome.{accepted, mapped, deliver}
 use Rattle.bcd.proofs.Results.{exit}
 use Rattle.bcd.proofs.Writing.{Begun}
-use Rattle.parameter.specs.Parameter.{Param, four, run_octets, run_length}
+use Rattle.parameter.specs.Parameter.{four, run_octets, run_length}
 use Rattle.parameter.specs.Table.{Table}
 use Rattle.address.specs.Steps.GivenParts.{given_title, sub_value, given_param, given_head, room_for}
 use Rattle.address.specs.declared.SuaAddress.{SuaAddress}

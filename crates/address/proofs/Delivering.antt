@@ -190,7 +190,7 @@ module _ {v : List ℕ} {s : Parts} {total : ℕ} (p : Plan with_unknown v s tot
       let same = ap (wire_of v) q.whole in
       parts-done (head_octets v) q.titled codes subs others at total b place room put (ap length same ∙ wire_length_lem v p.params ∙ p.size)
       ∙ ap (λ w. deliver (accepted w) out) same
-      ∙ ap (λ (o : Outcome (List ℕ)). deliver o out) (sym (plan_octets (alike D.AsRead) 0 p))
+      ∙ ap (λ (o : Outcome (List ℕ)). deliver o out) (sym (plan_octets (alike D.Unchecked) 0 p))
 
   -- There are no others.
   pub planned_none :
@@ -204,7 +204,7 @@ module _ {v : List ℕ} {s : Parts} {total : ℕ} (p : Plan with_unknown v s tot
       let same = ap (wire_of v) q.whole in
       parts_none (head_octets v) q.titled codes subs others total none b (ap length same ∙ wire_length_lem v p.params ∙ p.size)
       ∙ ap (λ w. deliver (accepted w) out) same
-      ∙ ap (λ (o : Outcome (List ℕ)). deliver o out) (sym (plan_octets (alike D.AsRead) 0 p))
+      ∙ ap (λ (o : Outcome (List ℕ)). deliver o out) (sym (plan_octets (alike D.Unchecked) 0 p))
 
 -- A plan with checked digits is one without.
 pub as_read : (digits : Digits) {v : List ℕ} {s : Parts} {total : ℕ} → Plan (digits_by digits) v s total → Plan with_unknown v s total
@@ -215,12 +215,12 @@ as_read D.Checked {v} {s} p = record {
   size = p.size;
   fits = p.fits;
 }
-as_read D.AsRead p = p
+as_read D.Unchecked p = p
 
 -- It is written the same; and the tag is told only where the value is too long.
 pub any_tag :
     (digits : Digits) {v : List ℕ} {s : Parts} {total : ℕ} (tag : ℕ) (p : Plan (digits_by digits) v s total)
     → after (read_address built_in v) (write_address with_unknown 0) ≡ after (read_address built_in v) (write_address (digits_by digits) tag)
 unfolding as_read
-any_tag D.Checked tag p = plan_octets (alike D.AsRead) 0 (as_read D.Checked p) ∙ sym (plan_octets (alike D.Checked) tag p)
-any_tag D.AsRead tag p = plan_octets (alike D.AsRead) 0 p ∙ sym (plan_octets (alike D.AsRead) tag p)
+any_tag D.Checked tag p = plan_octets (alike D.Unchecked) 0 (as_read D.Checked p) ∙ sym (plan_octets (alike D.Checked) tag p)
+any_tag D.Unchecked tag p = plan_octets (alike D.Unchecked) 0 p ∙ sym (plan_octets (alike D.Unchecked) tag p)

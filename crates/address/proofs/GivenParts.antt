@@ -22,18 +22,27 @@ use Rattle.parameter.proofs.InPlace.{framed-there}
 use Rattle.address.specs.Address.{Title, write_title, title, present, sub_param}
 use Rattle.address.specs.Records.{title_of, title_given, part_given}
 use Rattle.address.specs.Lengths.{title_length}
-use Rattle.address.specs.Steps.GivenParts.{given_title, given_param, title_room, Roomed}
+use Rattle.address.specs.Steps.GivenParts.{given_title, given_param, title_room, title_by, Roomed}
 use Rattle.address.specs.declared.GlobalTitle.{GlobalTitle}
+use Rattle.address.specs.declared.interpret.Digits.{Digits}
+use Rattle.address.specs.declared.interpret.Digits.TheVariants as D
 use Rattle.address.proofs.Planning.{each_one, title_sized, title_few}
 use Rattle.address.proofs.Putting.{one_encoded}
 use Rattle.address.proofs.Copying.{lent_length}
 use Rattle.address.proofs.Lending.{lent_refused, lent_accepted, front_kept}
 use Rattle.address.proofs.TitleRecords.{record_size}
 
+-- None takes nothing.
+pub no_title : (digits : Digits) → accepted 0 ≡ title_by digits None
+unfolding run_length
+no_title D.Checked = refl
+no_title D.Unchecked = refl
+
 -- What it takes: 11, 9, or the length of its sub-parameter.
 module _ (g : GlobalTitle) where
-  pub title_many : 255 < g.count → refused 11 (g.count ∷ []) ≡ mapped run_length (given_title (Some g))
-  title_many h = rw (lt-leb g.count 255 h)
+  pub title_many : (digits : Digits) → 255 < g.count → refused 11 (g.count ∷ []) ≡ title_by digits (Some g)
+  title_many D.Checked h = rw (lt-leb g.count 255 h)
+  title_many D.Unchecked h = rw (lt-leb g.count 255 h)
 
   title_taken : g.count ≤ 255 → given_title (Some g) ≡ sub_param built_in (title (title_of g))
   title_taken h = rw (le-leb g.count 255 h)

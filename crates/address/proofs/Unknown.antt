@@ -70,7 +70,7 @@ reads_alike v = refl
 
 pub alike : (digits : Digits) → Alike (digits_by digits)
 alike D.Checked = record { lawful = built_in_lawful; reads = λ v. refl }
-alike D.AsRead = record { lawful = with_unknown_lawful; reads = reads_alike }
+alike D.Unchecked = record { lawful = with_unknown_lawful; reads = reads_alike }
 
 -- A character's place in the front of a list.
 place-front : (c : ℕ) (xs ys : List ℕ) (h : ℕ) → place c xs ≡ Some h → place c (xs ++ ys) ≡ Some h

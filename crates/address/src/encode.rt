@@ -4,76 +4,58 @@ ghost use Rattle.bcd.specs.Outcome.{accepted, mapped, delivered, deliver};
 ghost use Rattle.bcd.specs.Answers.{outcome_of};
 ghost use Rattle.parameter.specs.Parameter.{four, run_octets, run_length};
 ghost use Rattle.address.specs.Given.{encode_address_as, encode_address};
-ghost use Rattle.address.specs.Steps.GivenParts.{given_title, sub_value, given_param, given_head, title_room, Roomed, length_with, room_for};
+ghost use Rattle.address.specs.Steps.GivenParts.{given_title, sub_value, given_param, given_head, title_room, title_by, Roomed, length_with, room_for};
 
-use crate::interpret::four_length;
+use crate::interpret::{Digits, four_length};
 use crate::{GlobalTitle, SuaAddress};
 use bcd::error::Refusal;
 use parameter::table::Records;
 use parameter::tags::{GLOBAL_TITLE, POINT_CODE, SUBSYSTEM_NUMBER};
 
 impl GlobalTitle {
-    // What it takes on the wire, as a sub-parameter. 11, 9.
-    fn wire_length(&self) -> Result<usize, Refusal>
-        ensures { outcome_of result ≡ mapped run_length (given_title (Some self.now)) }
+    // What it takes on the wire, as a sub-parameter. 11; 9, if its digits are checked.
+    fn wire_length(&self, digits: Digits) -> Result<usize, Refusal>
+        ensures { outcome_of result ≡ title_by digits (Some self.now) }
     {
         let count = self.count;
         if 255 < count {
             return Err(Refusal::TooManyDigits(count));
         }
-        let octets = bcd::gt_digits_length(&self.digits[..count])?;
+        let octets = match digits {
+            Digits::Checked => bcd::gt_digits_length(&self.digits[..count])?,
+            Digits::Unchecked => count.div_ceil(2),
+        };
         Ok((12 + octets).next_multiple_of(4))
     }
-
-    // What it takes on the wire if its digits can be written, which is not looked at. 11.
-    fn room(&self) -> Result<usize, Refusal>
-        ensures { outcome_of result ≡ title_room (Some self.now) }
-    {
-        let count = self.count;
-        if 255 < count {
-            return Err(Refusal::TooManyDigits(count));
-        }
-        Ok((12 + count.div_ceil(2)).next_multiple_of(4))
-    }
 }
 
-// What the title takes on the wire, if it is there. 11, 9.
-fn title_length(title: &Option<GlobalTitle>) -> Result<usize, Refusal>
-    ensures { outcome_of result ≡ mapped run_length (given_title title.now) }
+// What the title takes on the wire, if it is there. 11; 9, if its digits are checked.
+fn title_length(digits: Digits, title: &Option<GlobalTitle>) -> Result<usize, Refusal>
+    ensures { outcome_of result ≡ title_by digits title.now }
 {
     match title {
         None => Ok(0),
-        Some(gt) => gt.wire_length(),
+        Some(gt) => gt.wire_length(digits),
     }
 }
 
-// What the title takes on the wire, if it is there and its digits can be written, which is not looked at. 11.
-fn title_room(title: &Option<GlobalTitle>) -> Result<usize, Refusal>
-    ensures { outcome_of result ≡ title_room title.now }
-{
-    match title {
-        None => Ok(0),
-        Some(gt) => gt.room(),
-    }
-}
-
-// How many octets an address value has, with what its title takes. 15, the title's refusal, 10 for each other, 10 for the whole,
-// with the tag given.
-fn length_with(
+// How many octets an address value has. 15; 11; 9, if the digits are checked; 10 for each other; 10 for the whole, with the tag
+// given.
+fn length_by(
+    digits: Digits,
     tag: u16,
-    title: Result<usize, Refusal>,
     address: &SuaAddress,
     others: Records<'_>,
 ) -> Result<usize, Refusal>
     ensures { outcome_of result
-        ≡ length_with tag (outcome_of title) address.now others.entry.values.now others.entry.rows.now }
+        ≡ length_with tag (title_by digits address.now.global_title) address.now others.entry.values.now others.entry.rows.now }
 {
     if others.outside(address.other_count) {
         return Err(Refusal::OutsideSlice);
     }
     let front = 4 + four_length(address.point_code.is_some()) + four_length(address.ssn.is_some());
     let length = front
-        .saturating_add(title?)
+        .saturating_add(title_length(digits, &address.global_title)?)
         .saturating_add(others.parameters_length(address.other_count)?);
     if 65531 < length {
         return Err(Refusal::ValueTooLong { tag, length });
@@ -87,16 +69,7 @@ pub fn encoded_length(tag: u16, address: &SuaAddress, others: Records<'_>) -> Re
         ≡ mapped length
         (encode_address_as tag address.now others.entry.values.now others.entry.rows.now) }
 {
-    length_with(tag, title_length(&address.global_title), address, others)
-}
-
-// How many octets an address value has if its digits can be written, which is not looked at. 15, 11, 10 for each other, 10 for
-// the whole, with the tag given.
-fn room_for(tag: u16, address: &SuaAddress, others: Records<'_>) -> Result<usize, Refusal>
-    ensures { outcome_of result
-        ≡ room_for tag address.now others.entry.values.now others.entry.rows.now }
-{
-    length_with(tag, title_room(&address.global_title), address, others)
+    length_by(Digits::Checked, tag, address, others)
 }
 
 // Writes a sub-parameter of four octets, as a point code or an SSN, if it is there. 14.
@@ -184,7 +157,7 @@ impl SuaAddress {
     {
         // The digits are looked at once, as they are written; where the address is refused for something else, before that,
         // since 9 comes before 10 and 14.
-        let Ok(total) = room_for(tag, self, others) else {
+        let Ok(total) = length_by(Digits::Unchecked, tag, self, others) else {
             return encoded_length(tag, self, others);
         };
         if out.len() < total {

@@ -14,11 +14,11 @@ use crate::parts::{Parts, survey};
 use bcd::error::Refusal;
 use parameter::{Place, tags};
 
-// Whether the digits of a title that is written again are looked at once more, or written as they were read.
+// Whether the digits of a title are looked at, and refused where one cannot be written, or taken to be digits that can be.
 #[derive(Clone, Copy, Debug, PartialEq, Eq)]
 pub(crate) enum Digits {
     Checked,
-    AsRead,
+    Unchecked,
 }
 
 // Why a sub-parameter is too short: a title has eight octets, a point code and an SSN four.
@@ -58,7 +58,7 @@ impl<'a> TitleValue<'a> {
         let octets = self.octets;
         match digits {
             Digits::Checked => bcd::rewrite::rewritten_digits_length(&octets[8..], octets[4]),
-            Digits::AsRead => {
+            Digits::Unchecked => {
                 let there = usize::from(octets[4]).min(2 * (octets.len() - 8));
                 Ok(there.div_ceil(2))
             }

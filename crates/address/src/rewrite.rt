@@ -165,5 +165,5 @@ pub fn rewrite_as_read(tag: u16, value: &[u8], out: &mut [u8]) -> Result<usize, 
     ensures { delivered (outcome_of result) out.new
         ≡ deliver (after (read_address built_in value.now) (write_address with_unknown tag)) out.old }
 {
-    rewrite_by(Digits::AsRead, tag, value, out)
+    rewrite_by(Digits::Unchecked, tag, value, out)
 }

@@ -1,15 +1,17 @@
 -- The parts that are written of an address that is given by its record.
 use Rattle.std.specs.Prelude.{List, [], ◌∷◌, ◌++◌, ℕ, ◌+◌, ◌≤◌, ◌≡◌, length, leb}
 use Rattle.std.specs.Prelude.{Option, None, Some, is_some}
-use Rattle.bcd.specs.Outcome.{Outcome, accepted, pick, after, demand, each, fit64}
+use Rattle.bcd.specs.Outcome.{Outcome, accepted, pick, after, demand, mapped, each, fit64}
 use Rattle.bcd.specs.Digits.{built_in}
-use Rattle.parameter.specs.Parameter.{Param, param, two, padded_length, most_value, encode_param}
+use Rattle.parameter.specs.Parameter.{Param, param, two, padded_length, run_length, most_value, encode_param}
 use Rattle.parameter.specs.Table.{Table, records}
 use Rattle.address.specs.Address.{title, indicator, sub_param}
 use Rattle.address.specs.Records.{routing_value, title_of, title_given, address_of}
 use Rattle.address.specs.Lengths.{title_length}
 use Rattle.address.specs.declared.GlobalTitle.{GlobalTitle}
 use Rattle.address.specs.declared.SuaAddress.{SuaAddress}
+use Rattle.address.specs.declared.interpret.Digits.{Digits}
+use Rattle.address.specs.declared.interpret.Digits.TheVariants as D
 
 -- The sub-parameter of a title, if it is there: 11, 9.
 abbrev pub given_title : Option GlobalTitle → Outcome (List Param)
@@ -34,6 +36,11 @@ given_head a = two (routing_value a.routing_indicator) ++ two (indicator (addres
 abbrev pub title_room : Option GlobalTitle → Outcome ℕ
 title_room None = accepted 0
 title_room (Some g) = demand (leb g.count 255) 11 (g.count ∷ []) (accepted (padded_length (title_length (title_of g))))
+
+-- What a title takes on the wire, if it is there: 11; 9, where its digits are looked at.
+abbrev pub title_by : Digits → Option GlobalTitle → Outcome ℕ
+title_by D.Checked o = mapped run_length (given_title o)
+title_by D.Unchecked o = title_room o
 
 -- There is room for so many octets.
 pub record Roomed (o : Outcome ℕ) (out : List ℕ) : Type 0 where

@@ -57,7 +57,7 @@ pub record Plan (A : Alphabet) (v : List ℕ) (s : Parts) (total : ℕ) : Type 0
 -- The digits that are written: where they are checked, ? is none.
 abbrev pub digits_by : Digits → Alphabet
 digits_by D.Checked = built_in
-digits_by D.AsRead = with_unknown
+digits_by D.Unchecked = with_unknown
 
 -- What measuring a value that was read answers: how many octets it is written as, or why it is refused.
 abbrev pub PlanOf : Alphabet → (tag : ℕ) → List ℕ → Parts → Result ℕ Refusal → Type 0

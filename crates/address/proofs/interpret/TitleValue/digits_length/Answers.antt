@@ -14,8 +14,8 @@ returns-in-Checked c =
     let v = c.args.self.octets.now in
     rw (c.in-Checked.is) (c.rewritten_digits_length.ensures ∙ ap (mapped length) (read_part v (get_or v 4 0) c.args.self.within))
 
-pub returns-in-AsRead : goal.returns-in-AsRead
-returns-in-AsRead c =
+pub returns-in-Unchecked : goal.returns-in-Unchecked
+returns-in-Unchecked c =
     let v = c.args.self.octets.now in
     let half : c.div_ceil.result ≡ (c.min-there.result + 1) / 2 = omega (arith, c.div_ceil.ensures) in
-    rw (c.in-AsRead.is, half) (digits_count v (octets-of v c.args.self.fits) c.args.self.long c.min-there.result (omega (arith, c.min-there.ensures, c.from.ensures)))
+    rw (c.in-Unchecked.is, half) (digits_count v (octets-of v c.args.self.fits) c.args.self.long c.min-there.result (omega (arith, c.min-there.ensures, c.from.ensures)))

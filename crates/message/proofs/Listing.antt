@@ -1,23 +1,27 @@
 -- A message read into a lent table, and written from one.
 use Prim.Native.Nat.{ℕ, ◌+◌, ◌-◌, ◌≤◌, ◌<◌}
 use mathlib.Core.Path.{◌≡◌, refl, sym, ap, ◌∙◌}
+use mathlib.Core.Logic.{⊎_elim}
 use mathlib.Core.List.{List, [], ◌∷◌, ◌++◌}
 use native.Mathlib.Omega.{arith}
 use lib.Dec.{leb}
 use lib.ListN.{length, drop, length-take, length-drop}
 use borrow.Author.Tests.{le-leb, lt-leb, leb-true}
 use borrow.Rule.Slice.PartMut.{mid_of, put_mid}
-use Rattle.bcd.specs.Outcome.{Outcome, accepted, refused, after, mapped, each, most, bounded, fit64, deliver}
-use Rattle.bcd.proofs.Outcomes.{never, mapped_inv, demand_inv, bounded-within, deliver_refused, deliver_buffer, deliver_answer}
-use Rattle.bcd.proofs.Writing.{begin, extend, delivered}
+use Rattle.bcd.specs.Outcome.{Outcome, accepted, refused, after, mapped, each, most, bounded, fit64, Delivered, delivered, deliver}
+use Rattle.bcd.proofs.Outcomes.{accepted_inj, never, le_or_lt, mapped_inv, demand_inv, bounded-within, deliver_refused, deliver_too_long, deliver_buffer, deliver_answer}
+use Rattle.bcd.proofs.Writing.{Begun, begin, extend}
+use Rattle.bcd.proofs.Writing.{delivered as written-delivered}
 use Rattle.parameter.specs.Parameter.{Param, run_octets, encode_param, writable}
 use Rattle.parameter.specs.Walk.{places}
 use Rattle.parameter.specs.Table.{Table, Tabulated, tabulate}
 use Rattle.parameter.proofs.RoundTrip.{encode_inv}
+use Rattle.parameter.proofs.Running.{sum-writable}
 use Rattle.message.specs.declared.types.MessageType.{MessageType}
 use Rattle.message.specs.declared.header.CommonHeader.{CommonHeader}
 use Rattle.message.specs.Message.{header_with, header_octets, framed, read_header, write_header, message_places, message_octets, write_message}
 use Rattle.message.specs.Listing.{list_message}
+use Rattle.message.specs.Steps.Parts.{whole_length, headed}
 
 -- Reading
 
@@ -40,6 +44,12 @@ list_stored xs t h stored e k =
     rw (e, ← (k ∙ w))
 
 -- Writing
+
+abbrev answer_of : Delivered → Outcome ℕ
+answer_of d = d.answer
+
+abbrev buffer_of : Delivered → List ℕ
+buffer_of d = d.buffer
 
 pub framed-length : (m : MessageType) (os : List ℕ) → length (framed m os) ≡ 8 + length os
 framed-length m os = omega arith
@@ -92,43 +102,125 @@ pub message_refused :
 message_refused m (accepted os) n vs out e = absurd (never e)
 message_refused m (refused k ws) n vs out e = let a : n ≡ k = cc in let b : vs ≡ ws = cc in rw (a, b) (deliver_refused k ws out)
 
--- the header in front of the buffer, then the parameters in the rest of it
-pub message-done :
-    (m : MessageType) (os : List ℕ) (total : ℕ) (out d last : List ℕ) (h : CommonHeader) (o : Outcome (List ℕ)) {a b : Outcome ℕ}
-    → total ≡ 8 + length os
-    → total ≤ length out
-    → h ≡ header_with m total
-    → o ≡ accepted os
-    → record { answer = a; buffer = d } ≡ deliver (write_header h) out
-    → record { answer = b; buffer = last } ≡ deliver o (mid_of 8 (length d - 8) d)
-    → record { answer = accepted total; buffer = put_mid 8 (length d - 8) d last } ≡ deliver (accepted (framed m os)) out
-unfolding write_header
-message-done m os total out d last h o n fits same list head rest =
-    let hs = header_octets h in
-    let b1 = begin out hs d (omega arith) (deliver_buffer hs out (omega arith) head) in
-    let lent : length (mid_of 8 (length d - 8) d) ≡ length d - 8 = rw (length-take (length d - 8) (drop 8 d), length-drop 8 d) (omega arith) in
-    let b2 =
-    extend os last 8 (length d - 8) b1 refl (omega (arith, b1.same)) (omega (arith, b1.same))
-    (deliver_buffer os (mid_of 8 (length d - 8) d) (omega (arith, b1.same)) (rest ∙ ap (λ o. deliver o (mid_of 8 (length d - 8) d)) list)) in
-    let frame : hs ++ os ≡ framed m os =
-    ap (λ (k : CommonHeader). header_octets k ++ os) same ∙ ap (λ (k : ℕ). header_octets (header_with m k) ++ os) n in
-    delivered total b2 (omega arith) ∙ ap (λ (w : List ℕ). deliver (accepted w) out) frame
+-- The length of the whole.
+module _ (run room : ℕ) where
+  pub whole_large : most < fit64 (8 + run) → whole_length run room ≡ refused 12 (fit64 (8 + run) ∷ [])
+  whole_large h = rw (lt-leb (fit64 (8 + run)) most h)
 
--- where there is room for a message, neither its header nor its parameters are refused
+  pub whole_beyond : fit64 (8 + run) ≤ most → room < fit64 (8 + run) → whole_length run room ≡ refused 14 (fit64 (8 + run) ∷ [])
+  whole_beyond h k = rw (le-leb (fit64 (8 + run)) most h, lt-leb (fit64 (8 + run)) room k)
+
+  pub whole_fits : fit64 (8 + run) ≤ most → fit64 (8 + run) ≤ room → whole_length run room ≡ accepted (fit64 (8 + run))
+  whole_fits h k = rw (le-leb (fit64 (8 + run)) most h, le-leb (fit64 (8 + run)) room k)
+
+-- What a header that was written leaves.
+pub record Headed (m : MessageType) (run total : ℕ) (out d : List ℕ) : Type 0 where
+  pub size : total ≡ fit64 (8 + run)
+  pub small : total ≤ most
+  pub room : total ≤ length out
+  pub front : d ≡ header_octets (header_with m total) ++ drop 8 out
+
+pub headed_known :
+    (m : MessageType) (run total : ℕ) (out d : List ℕ)
+    → delivered (accepted total) d ≡ headed m (whole_length run (length out)) out
+    → Headed m run total out d
+headed_known m run total out d k = ⊎_elim within beyond (le_or_lt (fit64 (8 + run)) most)
+  where
+    beyond : most < fit64 (8 + run) → Headed m run total out d
+    beyond h = absurd (never (sym (ap answer_of (k ∙ ap (λ w. headed m w out) (whole_large run (length out) h)))))
+
+    within : fit64 (8 + run) ≤ most → Headed m run total out d
+    within h = ⊎_elim fits short (le_or_lt (fit64 (8 + run)) (length out))
+      where
+        short : length out < fit64 (8 + run) → Headed m run total out d
+        short l = absurd (never (sym (ap answer_of (k ∙ ap (λ w. headed m w out) (whole_beyond run (length out) h l)))))
+
+        fits : fit64 (8 + run) ≤ length out → Headed m run total out d
+        fits l =
+            let e = k ∙ ap (λ w. headed m w out) (whole_fits run (length out) h l) in
+            let same : total ≡ fit64 (8 + run) = accepted_inj (ap answer_of e) in
+            record {
+              size = same;
+              small = omega arith;
+              room = omega arith;
+              front = rw same (ap buffer_of e);
+            }
+
+-- A header that is refused is the message's refusal.
+module _ (m : MessageType) (o : Outcome (List ℕ)) (run : ℕ) (e : accepted run ≡ mapped (λ (os : List ℕ). fit64 (length os)) o) where
+  pub headed_refused :
+      (n : ℕ) (vs out d : List ℕ)
+      → delivered (refused n vs) d ≡ headed m (whole_length run (length out)) out
+      → record { answer = refused n vs; buffer = d } ≡ deliver (after o (λ os. writable (framed m os))) out
+  headed_refused n vs out d k = ⊎_elim within beyond (le_or_lt (fit64 (8 + run)) most)
+    where
+      Goal : Type 0
+      Goal = record { answer = refused n vs; buffer = d } ≡ deliver (after o (λ os. writable (framed m os))) out
+
+      beyond : most < fit64 (8 + run) → Goal
+      beyond h = k ∙ ap (λ w. headed m w out) (whole_large run (length out) h) ∙ message_large m o run (fit64 (8 + run)) e refl out h
+
+      within : fit64 (8 + run) ≤ most → Goal
+      within h = ⊎_elim fits short (le_or_lt (fit64 (8 + run)) (length out))
+        where
+          short : length out < fit64 (8 + run) → Goal
+          short l =
+              k ∙ ap (λ w. headed m w out) (whole_beyond run (length out) h l)
+              ∙ deliver_too_long _ _ out (message-counted m o run (fit64 (8 + run)) e refl h) l
+
+          fits : fit64 (8 + run) ≤ length out → Goal
+          fits l = absurd (never (ap answer_of (k ∙ ap (λ w. headed m w out) (whole_fits run (length out) h l))))
+
+  -- behind a header, the parameters in the rest of the buffer
+  module _ (total : ℕ) (out d : List ℕ) (k : delivered (accepted total) d ≡ headed m (whole_length run (length out)) out) (q : Outcome (List ℕ)) (same : q ≡ after o writable) where
+    head : Headed m run total out d
+    head = headed_known m run total out d k
+
+    known : (os : List ℕ) × (o ≡ accepted os) × (after o (λ os. writable (framed m os)) ≡ accepted (framed m os)) × (total ≡ 8 + length os)
+    known = message-known m o run total e head.size head.small
+
+    listed : q ≡ accepted known.0
+    listed = same ∙ sum-writable o run e (omega (arith, head.size, head.small)) ∙ known.1
+
+    begun : Begun out (header_octets (header_with m total)) d
+    begun = begin out (header_octets (header_with m total)) d (omega (arith, head.room, known.3)) head.front
+
+    lent : length (mid_of 8 (length d - 8) d) ≡ length d - 8
+    lent = rw (length-take (length d - 8) (drop 8 d), length-drop 8 d) (omega arith)
+
+    pub rest_accepted : {last : List ℕ} {n : ℕ} {vs : List ℕ} → record { answer = refused n vs; buffer = last } ≡ deliver q (mid_of 8 (length d - 8) d) → ⊥
+    rest_accepted rest =
+        never (deliver_answer known.0 (mid_of 8 (length d - 8) d) (omega (arith, lent, begun.same, head.room, known.3)) (rest ∙ ap (λ o. deliver o (mid_of 8 (length d - 8) d)) listed))
+
+    pub message-done :
+        {b : Outcome ℕ} {last : List ℕ}
+        → record { answer = b; buffer = last } ≡ deliver q (mid_of 8 (length d - 8) d)
+        → record { answer = accepted total; buffer = put_mid 8 (length d - 8) d last } ≡ deliver (after o (λ os. writable (framed m os))) out
+    message-done {b} {last} rest =
+        let os = known.0 in
+        let n = known.3 in
+        let b2 =
+        extend os last 8 (length d - 8) begun refl (omega (arith, begun.same, head.room, n)) (omega (arith, begun.same, head.room, n))
+        (deliver_buffer os (mid_of 8 (length d - 8) d) (omega (arith, lent, begun.same, head.room, n)) (rest ∙ ap (λ o. deliver o (mid_of 8 (length d - 8) d)) listed)) in
+        let frame : header_octets (header_with m total) ++ os ≡ framed m os = ap (λ (k : ℕ). header_octets (header_with m k) ++ os) n in
+        rw known.2 (written-delivered total b2 (omega (arith, n)) ∙ ap (λ (w : List ℕ). deliver (accepted w) out) frame)
+
+-- Where there is room for a header, it is not refused.
 pub header_room : (h : CommonHeader) (out : List ℕ) {d : List ℕ} {n : ℕ} {vs : List ℕ} → 8 ≤ length out → record { answer = refused n vs; buffer = d } ≡ deliver (write_header h) out → ⊥
 unfolding write_header
 header_room h out room head = never (deliver_answer (header_octets h) out room head)
 
-pub rest_room :
-    (os : List ℕ) (out d : List ℕ) (h : CommonHeader) (o : Outcome (List ℕ)) {last : List ℕ} {a : Outcome ℕ} {n : ℕ} {vs : List ℕ}
-    → 8 + length os ≤ length out
-    → o ≡ accepted os
+-- The header written is the definition's.
+pub header_put :
+    (m : MessageType) (run total : ℕ) (out d : List ℕ) (h : CommonHeader) {a : Outcome ℕ}
+    → total ≡ fit64 (8 + run)
+    → total ≤ most
+    → total ≤ length out
+    → h ≡ header_with m total
     → record { answer = a; buffer = d } ≡ deliver (write_header h) out
-    → record { answer = refused n vs; buffer = last } ≡ deliver o (mid_of 8 (length d - 8) d)
-    → ⊥
+    → delivered (accepted total) d ≡ headed m (whole_length run (length out)) out
 unfolding write_header
-rest_room os out d h o room list head rest =
-    let hs = header_octets h in
-    let b = begin out hs d (omega arith) (deliver_buffer hs out (omega arith) head) in
-    let lent : length (mid_of 8 (length d - 8) d) ≡ length d - 8 = rw (length-take (length d - 8) (drop 8 d), length-drop 8 d) (omega arith) in
-    never (deliver_answer os (mid_of 8 (length d - 8) d) (omega (arith, b.same)) (rest ∙ ap (λ o. deliver o (mid_of 8 (length d - 8) d)) list))
+header_put m run total out d h t small fits same put =
+    let whole : whole_length run (length out) ≡ accepted total = rw t (whole_fits run (length out) (omega arith) (omega arith)) in
+    let front = deliver_buffer (header_octets h) out (omega arith) put in
+    rw whole (ap (delivered (accepted total)) (front ∙ ap (λ (k : CommonHeader). header_octets k ++ drop 8 out) same))

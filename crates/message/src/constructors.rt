@@ -10,7 +10,7 @@ ghost use Rattle.message.specs.Constructors.{error_message, notify, snm, cldt, c
 ghost use Rattle.message.specs.Steps.Parts.{made};
 
 use crate::SuaMessage;
-use crate::header::CommonHeader;
+use crate::header::{CommonHeader, put_header};
 use crate::types::MessageType;
 use address::SuaAddress;
 use bcd::error::Refusal;
@@ -29,15 +29,7 @@ fn write(
 ) -> Result<usize, Refusal>
     ensures { delivered (outcome_of result) out.new ≡ deliver (made message_type parts.now) out.old }
 {
-    let run = run_length(parts)?;
-    let total = CommonHeader::SIZE.saturating_add(run);
-    if 1048576 < total {
-        return Err(Refusal::TooManyOctets(total));
-    }
-    if out.len() < total {
-        return Err(Refusal::OutputTooSmall(total));
-    }
-    CommonHeader::new(message_type, total as u32).encode(out)?;
+    let total = put_header(message_type, run_length(parts)?, out)?;
     write_run(parts, &mut out[CommonHeader::SIZE..])?;
     Ok(total)
 }

@@ -1,8 +1,9 @@
 // The common header (header.rs; RFC 3868, 3.1).
-ghost use Rattle.std.specs.Prelude.{◌≡◌};
+ghost use Rattle.std.specs.Prelude.{◌≡◌, length};
 ghost use Rattle.bcd.specs.Outcome.{delivered, deliver};
 ghost use Rattle.bcd.specs.Answers.{outcome_of};
 ghost use Rattle.message.specs.Message.{header_with, read_header, write_header};
+ghost use Rattle.message.specs.Steps.Parts.{whole_length, headed};
 
 use crate::types::MessageType;
 use bcd::error::Refusal;
@@ -70,4 +71,25 @@ impl CommonHeader {
         out[..Self::SIZE].copy_from_slice(&octets);
         Ok(Self::SIZE)
     }
+}
+
+// Writes the header of a message whose parameters take so many octets, if there is room for both, and tells how many octets
+// both take. 12, 14.
+pub(crate) fn put_header(
+    message_type: MessageType,
+    run: usize,
+    out: &mut [u8],
+) -> Result<usize, Refusal>
+    ensures { delivered (outcome_of result) out.new
+        ≡ headed message_type (whole_length run (length out.old)) out.old }
+{
+    let total = CommonHeader::SIZE.saturating_add(run);
+    if 1048576 < total {
+        return Err(Refusal::TooManyOctets(total));
+    }
+    if out.len() < total {
+        return Err(Refusal::OutputTooSmall(total));
+    }
+    CommonHeader::new(message_type, total as u32).encode(out)?;
+    Ok(total)
 }

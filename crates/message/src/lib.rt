@@ -14,7 +14,7 @@ ghost use Rattle.message.specs.Message.{message, write_message};
 ghost use Rattle.message.specs.Listing.{listed, list_message};
 
 use bcd::error::Refusal;
-use header::CommonHeader;
+use header::{CommonHeader, put_header};
 use parameter::Place;
 use parameter::table::{Records, decode_parameters_from};
 pub use pieces::point_codes;
@@ -51,14 +51,7 @@ impl SuaMessage {
             out.old }
     {
         let run = lent.parameters_length(self.count)?;
-        let total = CommonHeader::SIZE.saturating_add(run);
-        if 1048576 < total {
-            return Err(Refusal::TooManyOctets(total));
-        }
-        if out.len() < total {
-            return Err(Refusal::OutputTooSmall(total));
-        }
-        CommonHeader::new(self.message_type, total as u32).encode(out)?;
+        let total = put_header(self.message_type, run, out)?;
         lent.encode_parameters(self.count, &mut out[CommonHeader::SIZE..])?;
         Ok(total)
     }

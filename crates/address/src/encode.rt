@@ -84,7 +84,7 @@ pub fn write_four(tag: u16, value: Option<[u8; 4]>, out: &mut [u8]) -> Result<us
 }
 
 // The value of an SSN's sub-parameter: three reserved octets in front of it.
-pub fn ssn_octets(ssn: Option<u8>) -> Option<[u8; 4]>
+pub(crate) fn ssn_octets(ssn: Option<u8>) -> Option<[u8; 4]>
     ensures { result ≡ option_map sub_value ssn }
 {
     let ssn = ssn?;

@@ -3,12 +3,13 @@ use Prim.Native.Nat.{ℕ, ◌+◌, ◌-◌, ◌*◌, ◌/◌, ◌%◌, ◌≤◌
 use mathlib.Core.Path.{◌≡◌, refl, sym, ap, ◌∙◌}
 use mathlib.Core.List.{List, [], ◌∷◌, ◌++◌, append_assoc, append-nil}
 use native.Mathlib.Omega.{arith}
-use lib.ListN.{length, get_or, set, take, drop, replicate, length-append, length-drop}
+use lib.ListN.{length, get_or, set, take, drop, replicate, length-append, length-take, length-drop}
+use borrow.Rule.Slice.PartMut.{mid_of, put_mid}
 use lib.Seq.{take-add, take-suc, set_at, get_or_at, length-take-le}
 use native.Mathlib.Numerals.{add-one}
 use Rattle.bcd.specs.Outcome.{Outcome, accepted, refused, mapped, Octets, deliver}
 use Rattle.bcd.specs.Digits.{halves, pack, built_in, digits_in, write_digits}
-use Rattle.bcd.proofs.Outcomes.{octets_at, all_drop}
+use Rattle.bcd.proofs.Outcomes.{octets-of, octets_at, all_drop}
 use Rattle.bcd.proofs.Reading.{digits-length, digits-most}
 use Rattle.bcd.proofs.Rewriting.{octets_even, octets_odd, halves-packed}
 use Rattle.bcd.proofs.Writing.{begin, delivered}
@@ -17,6 +18,7 @@ use Rattle.parameter.proofs.RoundTrip.{octets-length}
 use Rattle.parameter.proofs.Encoding.{encode_within}
 use Rattle.address.specs.Address.{title_at, write_title, title, sub_param}
 use Rattle.address.specs.Again.{with_unknown}
+use Rattle.address.specs.declared.interpret.TitleValue.{TitleValue}
 use Rattle.address.proofs.Unknown.{digits_as_read}
 use Rattle.address.proofs.Putting.{delivered_inv, refused_alike}
 
@@ -24,7 +26,7 @@ use Rattle.address.proofs.Putting.{delivered_inv, refused_alike}
 abbrev titled : (a b c g n t p o : ℕ) → List ℕ → Param
 titled a b c g n t p o os = record { tag = 0x8001; value = a ∷ b ∷ c ∷ g ∷ n ∷ t ∷ p ∷ o ∷ os }
 
-patch : (a b c g k t p o n : ℕ) (os r : List ℕ) → set (set (set (set (param_octets (titled a b c g k t p o os) ++ r) 4 0) 5 0) 6 0) 8 n ≡ param_octets (titled 0 0 0 g n t p o os) ++ r
+patch : (a b c g k t p o n : ℕ) (os r : List ℕ) → set (put_mid 4 3 (param_octets (titled a b c g k t p o os) ++ r) (0 ∷ 0 ∷ 0 ∷ [])) 8 n ≡ param_octets (titled 0 0 0 g n t p o os) ++ r
 unfolding param_octets
 patch a b c g k t p o n os r = refl
 
@@ -68,7 +70,13 @@ eight (a ∷ b ∷ c ∷ d ∷ e ∷ f ∷ []) h = absurd (omega arith)
 eight (a ∷ b ∷ c ∷ d ∷ e ∷ f ∷ g ∷ []) h = absurd (omega arith)
 
 -- What a title is written as: one sub-parameter, with the octets of the half octets that were read.
-module _ (w : List ℕ) (octets : Octets w) (long : 8 ≤ length w) (n : ℕ) (count : n ≡ min (get_or w 4 0) (2 * (length w - 8))) where
+module _ (t : TitleValue) (n : ℕ) (count : n ≡ min (get_or t.octets.now 4 0) (2 * (length t.octets.now - 8))) where
+  abbrev w : List ℕ
+  w = t.octets.now
+
+  octets : Octets w
+  octets = octets-of w t.fits
+
   abbrev ds : List ℕ
   ds = drop 8 w
 
@@ -100,7 +108,7 @@ module _ (w : List ℕ) (octets : Octets w) (long : 8 ≤ length w) (n : ℕ) (c
   -- the octets that are handed on, with the first eight apart
   given : take (8 + (n + 1) / 2) w
       ≡ get_or w 0 0 ∷ get_or w 1 0 ∷ get_or w 2 0 ∷ get_or w 3 0 ∷ get_or w 4 0 ∷ get_or w 5 0 ∷ get_or w 6 0 ∷ get_or w 7 0 ∷ take ((n + 1) / 2) ds
-  given = take-add 8 ((n + 1) / 2) w ∙ ap (λ l. l ++ take ((n + 1) / 2) ds) (eight w long)
+  given = take-add 8 ((n + 1) / 2) w ∙ ap (λ l. l ++ take ((n + 1) / 2) ds) (eight w t.long)
 
   -- the sub-parameter with the octets that are handed on, and with those that are written
   abbrev lent : Param
@@ -113,7 +121,7 @@ module _ (w : List ℕ) (octets : Octets w) (long : 8 ≤ length w) (n : ℕ) (c
   packed = pack (take n (halves ds))
 
   size : length lent.value ≡ 8 + (n + 1) / 2
-  size = length-take-le (8 + (n + 1) / 2) w (omega (arith, count))
+  size = length-take-le (8 + (n + 1) / 2) w (omega (arith, count, t.long))
 
   sizes : length (param_octets lent) ≡ padded_length (8 + (n + 1) / 2)
   sizes = octets-length lent ∙ ap padded_length size
@@ -130,14 +138,15 @@ module _ (w : List ℕ) (octets : Octets w) (long : 8 ≤ length w) (n : ℕ) (c
 
   module _ (out last : List ℕ) where
     pub put_refused :
-        {m : ℕ} {vs : List ℕ}
-        → record { answer = refused m vs; buffer = last } ≡ deliver (encode_param lent) out
+        {h m : ℕ} {vs : List ℕ}
+        → h ≡ (n + 1) / 2
+        → record { answer = refused m vs; buffer = last } ≡ deliver (encode_param (param 0x8001 (take (8 + h) w))) out
         → record { answer = refused m vs; buffer = last } ≡ deliver (mapped run_octets (sub_param with_unknown (title (title_at built_in w)))) out
-    put_refused e =
-        refused_alike (param_octets lent) (param_octets (kept packed)) out (sizes ∙ sym kept_size) (e ∙ ap (λ (o : Outcome (List ℕ)). deliver o out) encoded)
+    put_refused half e =
+        refused_alike (param_octets lent) (param_octets (kept packed)) out (sizes ∙ sym kept_size) ((rw half at e) ∙ ap (λ (o : Outcome (List ℕ)). deliver o out) encoded)
         ∙ ap (λ (o : Outcome (List ℕ)). deliver o out) (sym written)
 
-    module _ (l : ℕ) (e : record { answer = accepted l; buffer = last } ≡ deliver (encode_param lent) out) where
+    module _ {h l : ℕ} (half : h ≡ (n + 1) / 2) (e : record { answer = accepted l; buffer = last } ≡ deliver (encode_param (param 0x8001 (take (8 + h) w))) out) where
       -- Its octets are there.
       pub record Put : Type 0 where
         pub takes : l ≡ padded_length (8 + (n + 1) / 2)
@@ -147,7 +156,7 @@ module _ (w : List ℕ) (octets : Octets w) (long : 8 ≤ length w) (n : ℕ) (c
 
       pub put : Put
       put =
-          let f = delivered_inv (param_octets lent) out (e ∙ ap (λ (o : Outcome (List ℕ)). deliver o out) encoded) in
+          let f = delivered_inv (param_octets lent) out ((rw half at e) ∙ ap (λ (o : Outcome (List ℕ)). deliver o out) encoded) in
           record {
             takes = f.count ∙ sizes;
             room = omega (arith, f.count, f.room);
@@ -156,12 +165,18 @@ module _ (w : List ℕ) (octets : Octets w) (long : 8 ≤ length w) (n : ℕ) (c
           }
 
       abbrev patched : List ℕ
-      patched = set (set (set (set last 4 0) 5 0) 6 0) 8 n
+      patched = set (put_mid 4 3 last (0 ∷ 0 ∷ 0 ∷ [])) 8 n
+
+      -- the reserved octets are cleared
+      pub cleared : {zs : List ℕ} → zs ≡ replicate (length (mid_of 4 3 last)) 0 → set (put_mid 4 3 last zs) 8 n ≡ patched
+      cleared e =
+          let three : length (mid_of 4 3 last) ≡ 3 = omega (arith, length-take 3 (drop 4 last), length-drop 4 last, put.takes, put.room, put.whole) in
+          rw (e, three)
 
       buffer : patched ≡ param_octets (kept (take ((n + 1) / 2) ds)) ++ drop l out
       buffer =
           let same = put.holds ∙ ap (λ v. param_octets (param 0x8001 v) ++ drop l out) given in
-          ap (λ d. set (set (set (set d 4 0) 5 0) 6 0) 8 n) same
+          ap (λ d. set (put_mid 4 3 d (0 ∷ 0 ∷ 0 ∷ [])) 8 n) same
           ∙ patch (get_or w 0 0) (get_or w 1 0) (get_or w 2 0) (get_or w 3 0) (get_or w 4 0) (get_or w 5 0) (get_or w 6 0) (get_or w 7 0) n (take ((n + 1) / 2) ds) (drop l out)
 
       done :

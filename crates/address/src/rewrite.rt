@@ -25,24 +25,6 @@ pub fn rewritten_length(tag: u16, value: &[u8]) -> Result<usize, Refusal>
     interpret(value)?.measure(Digits::Checked, tag)
 }
 
-// Clears the three reserved octets of the value of a parameter that was written.
-fn clear_reserved(out: &mut [u8])
-    requires { 8 ≤ length out.old }
-    ensures { out.new ≡ set (set (set out.old 4 0) 5 0) 6 0 }
-{
-    out[4] = 0;
-    out[5] = 0;
-    out[6] = 0;
-}
-
-// Clears the high half of an octet.
-fn clear_high(out: &mut [u8], i: usize)
-    requires { i < length out.old }
-    ensures { out.new ≡ set out.old i (get_or out.old i 0 % 16) }
-{
-    out[i] %= 16;
-}
-
 // Writes a title, given by its value, as one parameter: its octets as they are, but for the reserved ones, the count of
 // the digits that are there, and an odd last high half. 14.
 fn put_title(given: TitleValue<'_>, out: &mut [u8]) -> Result<usize, Refusal>
@@ -54,10 +36,10 @@ fn put_title(given: TitleValue<'_>, out: &mut [u8]) -> Result<usize, Refusal>
     let digits = usize::from(count).min(2 * (value.len() - 8));
     let octets = digits.div_ceil(2);
     let length = parameter::encode(tags::GLOBAL_TITLE, &value[..8 + octets], out)?;
-    clear_reserved(out);
+    out[4..7].fill(0);
     out[8] = digits as u8;
     if digits % 2 == 1 {
-        clear_high(out, 11 + octets);
+        out[11 + octets] %= 16;
     }
     Ok(length)
 }

@@ -4,7 +4,6 @@ use Prim.Native.Nat.{◌+◌, ◌/◌}
 use native.Mathlib.Omega.{arith}
 use lib.ListN.{length, get_or}
 use Rattle.bcd.specs.Outcome.{mapped}
-use Rattle.bcd.proofs.Outcomes.{octets-of}
 use Rattle.address.proofs.Planning.{read_part}
 use Rattle.address.proofs.Titling.{digits_count}
 use Rattle.address.proofs.interpret.TitleValue.digits_length.Goals as goal
@@ -18,4 +17,4 @@ pub returns-in-Unchecked : goal.returns-in-Unchecked
 returns-in-Unchecked c =
     let v = c.args.self.octets.now in
     let half : c.div_ceil.result ≡ (c.min-there.result + 1) / 2 = omega (arith, c.div_ceil.ensures) in
-    rw (c.in-Unchecked.is, half) (digits_count v (octets-of v c.args.self.fits) c.args.self.long c.min-there.result (omega (arith, c.min-there.ensures, c.from.ensures)))
+    rw (c.in-Unchecked.is, half) (digits_count c.args.self c.min-there.result (omega (arith, c.min-there.ensures, c.from.ensures)))

@@ -7,13 +7,13 @@ use mathlib.Core.List.{List, map}
 use native.Mathlib.Omega.{arith}
 use borrow.Author.Tests.{le-leb}
 use lib.ListN.{length, get_or, length-map}
-use Rattle.bcd.specs.Outcome.{accepted, mapped, bounded, most}
+use Rattle.bcd.specs.Outcome.{accepted, mapped}
 use Rattle.bcd.specs.Digits.{built_in}
-use Rattle.bcd.proofs.Outcomes.{accepted_inj, bounded-within}
-use Rattle.parameter.specs.Parameter.{two_at, four_in, number_in}
+use Rattle.bcd.proofs.Outcomes.{accepted_inj}
+use Rattle.parameter.specs.Parameter.{two_at}
 use Rattle.parameter.specs.Walk.{valued}
 use Rattle.parameter.specs.declared.Place.{Place}
-use Rattle.address.specs.Address.{title_at, Title, title_in, read_title, Address, address_with, bit, routing_in, read_address}
+use Rattle.address.specs.Address.{Title, Address, address_with, bit, routing_in, read_address}
 use Rattle.address.specs.Records.{routing_value, address_of, title_of}
 use Rattle.address.specs.Titles.{record_of}
 use Rattle.address.specs.Listing.{other_places, routing_named, address_record}
@@ -23,29 +23,12 @@ use Rattle.address.specs.declared.GlobalTitle.{GlobalTitle}
 use Rattle.address.specs.declared.RoutingIndicator.{RoutingIndicator}
 use Rattle.address.specs.declared.SuaAddress.{SuaAddress}
 use Rattle.address.specs.declared.parts.Parts.{Parts}
-use Rattle.parameter.proofs.Records.{value-length}
 use Rattle.address.proofs.Keeping.{value_at}
 use Rattle.address.proofs.Interpreting.{title_holds, code_holds, sub_holds, others_hold}
 use Rattle.address.proofs.Interpreted.{address, read_whole}
 use Rattle.address.proofs.Others.{count_known}
 use Rattle.address.proofs.Records.{named_back}
 use Rattle.address.proofs.TitleRecords.{record_back}
-
--- What reading a part that is kept gives.
-module _ (v : List ℕ) (within : length v ≤ most) (p : Place) where
-  pub title-known : HeldIn v 8 (Some p) → read_title built_in (valued v p).value ≡ accepted (title_at built_in (valued v p).value)
-  unfolding read_title title_in
-  title-known h =
-      let value = (valued v p).value in
-      let l = value-length v p h.0 in
-      bounded-within value (title_in built_in value) (omega (arith, h.0)) ∙ rw (le-leb 8 (length value) (omega (arith, h.1)))
-
-  pub number-known : HeldIn v 4 (Some p) → bounded (valued v p).value (accepted (number_in (valued v p).value)) ≡ accepted (Some (four_in (valued v p).value))
-  unfolding number_in
-  number-known h =
-      let value = (valued v p).value in
-      let l = value-length v p h.0 in
-      bounded-within value (accepted (number_in value)) (omega (arith, h.0)) ∙ rw (le-leb 4 (length value) (omega (arith, h.1)))
 
 pub sub-kept : (v : List ℕ) (p : Place) → HeldIn v 4 (Some p) → ◌≡◌ {A = Option ℕ} (Some (get_or v (p.start + 3) 0)) (kept_sub v (Some p))
 sub-kept v p h = ap Some (sym (value_at v p 3 (omega (arith, h.1))))

@@ -3,7 +3,7 @@ use Prim.Native.Nat.{ℕ, ◌+◌, ◌-◌, ◌*◌, ◌/◌, ◌%◌, ◌≤◌
 use mathlib.Core.Path.{◌≡◌, refl, sym, ap, ◌∙◌, subst}
 use mathlib.Core.List.{List, [], ◌∷◌, ◌++◌, map, append_assoc, append-nil}
 use native.Mathlib.Omega.{arith}
-use lib.ListN.{length, get_or, set, drop, length-append}
+use lib.ListN.{length, get_or, drop, length-append}
 use borrow.Rule.Slice.PartMut.{mid_of, put_mid}
 use Rattle.bcd.specs.Outcome.{Outcome, accepted, refused, after, mapped, each, deliver}
 use Rattle.bcd.specs.Digits.{built_in}
@@ -26,14 +26,6 @@ use Rattle.address.proofs.Planning.{param_of, code_param, sub_one, rest, kept-wr
 use Rattle.address.proofs.Plans.{plan_octets, wire_length_lem}
 use Rattle.address.proofs.Putting.{delivered_never}
 use Rattle.address.proofs.Copying.{others_of, done-octets, lent_length}
-
--- The four octets in front.
-pub four-stored : (a b c d : ℕ) (out : List ℕ) → 4 ≤ length out → set (set (set (set out 0 a) 1 b) 2 c) 3 d ≡ a ∷ b ∷ c ∷ d ∷ drop 4 out
-four-stored a b c d [] h = absurd (omega arith)
-four-stored a b c d (w ∷ []) h = absurd (omega arith)
-four-stored a b c d (w ∷ x ∷ []) h = absurd (omega arith)
-four-stored a b c d (w ∷ x ∷ y ∷ []) h = absurd (omega arith)
-four-stored a b c d (w ∷ x ∷ y ∷ z ∷ out) h = refl
 
 pub head_octets_lem : (v r : List ℕ) → get_or v 1 0 < 256 → get_or v 0 0 ∷ get_or v 1 0 ∷ 0 ∷ (get_or v 3 0 % 8) ∷ r ≡ head_octets v ++ r
 unfolding two_at

@@ -1,28 +1,17 @@
 -- Sub-parameters that are written from the octets of an address value, one by one.
-use Prim.Native.Nat.{ℕ, ◌+◌, ◌*◌, ◌/◌, ◌%◌, ◌≤◌, ◌<◌}
+use Prim.Native.Nat.{ℕ, ◌+◌, ◌*◌, ◌/◌, ◌%◌, ◌≤◌}
 use mathlib.Core.Path.{◌≡◌, refl, sym, ap, ◌∙◌}
 use mathlib.Core.Bool.{Bool, true, false}
-use Rattle.std.specs.Prelude.{Some}
 use mathlib.Core.List.{List, [], ◌∷◌, ◌++◌, append-nil}
 use native.Mathlib.Omega.{arith}
 use borrow.Author.Tests.{leb-true}
 use lib.Dec.{leb}
-use lib.ListN.{length, get_or, take, drop, length-take, length-drop}
-use lib.Seq.{take-take}
-use Rattle.bcd.specs.Outcome.{Outcome, accepted, refused, pick, mapped, each, Octets, Delivered, deliver}
-use Rattle.bcd.specs.Digits.{built_in}
-use Rattle.bcd.proofs.Outcomes.{accepted_inj, never, deliver_answer, all_take, all_drop}
+use lib.ListN.{length, take, drop}
+use Rattle.bcd.specs.Outcome.{Outcome, accepted, refused, pick, Octets, Delivered, deliver}
+use Rattle.bcd.proofs.Outcomes.{accepted_inj, never, deliver_answer}
 use Rattle.bcd.proofs.Writing.{untouched, delivered}
-use Rattle.parameter.specs.Parameter.{Param, param, four, four_in, two_at, param_octets, run_octets, most_value, encode_param}
-use Rattle.parameter.specs.Walk.{valued}
-use Rattle.parameter.specs.declared.Place.{Place}
+use Rattle.parameter.specs.Parameter.{Param, four, four_in, two_at, param_octets, run_octets, most_value, encode_param}
 use Rattle.parameter.proofs.Encoding.{encode_within}
-use Rattle.address.specs.Address.{title_at, title, code, sub, present, sub_param}
-use Rattle.address.specs.Again.{with_unknown}
-use Rattle.address.specs.Steps.Kept.{kept_title, kept_code, kept_sub}
-use Rattle.address.specs.Steps.Plan.{HeldIn}
-use Rattle.address.proofs.Keeping.{value_at}
-use Rattle.address.proofs.Planning.{each_one, code_param, sub_one, code-params, sub-params}
 
 -- What is delivered, where it is not refused.
 pub record Fits (os out : List ℕ) (n : ℕ) (last : List ℕ) : Type 0 where
@@ -94,36 +83,3 @@ four_again (a ∷ b ∷ c ∷ d ∷ w) h (ha, (hb, (hc, (hd, ho)))) =
     let third : n % 65536 / 256 ≡ c = omega arith in
     let fourth : n % 65536 % 256 ≡ d = omega arith in
     rw (first, second, third, fourth)
-
--- A point code or an SSN that is kept.
-module _ (v : List ℕ) (p : Place) (h : HeldIn v 4 (Some p)) (out : List ℕ) where
-  abbrev value : List ℕ
-  value = (valued v p).value
-
-  value_long : 4 ≤ length value
-  value_long = rw (length-take p.length (drop p.start v), length-drop p.start v) (omega (arith, h.0, h.1))
-
-  pub code_put :
-      (octets : List ℕ) {d : Delivered}
-      → Octets v
-      → octets ≡ take 4 (drop p.start v)
-      → d ≡ deliver (encode_param (param 0x8002 octets)) out
-      → d ≡ deliver (mapped run_octets (each (sub_param with_unknown) (present code (kept_code v (Some p))))) out
-  code_put octets {d} o e put =
-      let ov = all_take (λ (x : ℕ). x < 256) p.length (drop p.start v) (all_drop (λ (x : ℕ). x < 256) p.start v o) in
-      let same : octets ≡ four (four_in value) = e ∙ sym (take-take 4 p.length (drop p.start v) h.1) ∙ four_again value value_long ov in
-      one_encoded (code_param (four_in value)) out (omega arith) (put ∙ ap (λ w. deliver (encode_param (param 0x8002 w)) out) same)
-      ∙ ap (λ (o : Outcome (List Param)). deliver (mapped run_octets o) out) (sym (code-params with_unknown (kept_code v (Some p))))
-
-  pub sub_put :
-      {d : Delivered}
-      → d ≡ deliver (encode_param (sub_one (get_or v (p.start + 3) 0))) out
-      → d ≡ deliver (mapped run_octets (each (sub_param with_unknown) (present sub (kept_sub v (Some p))))) out
-  sub_put {d} put =
-      let same : get_or v (p.start + 3) 0 ≡ get_or value 3 0 = sym (value_at v p 3 (omega (arith, h.1))) in
-      one_encoded (sub_one (get_or value 3 0)) out (omega arith) (put ∙ ap (λ (n : ℕ). deliver (encode_param (sub_one n)) out) same)
-      ∙ ap (λ (o : Outcome (List Param)). deliver (mapped run_octets o) out) (sym (sub-params with_unknown (kept_sub v (Some p))))
-
--- A title that is kept, by its value.
-pub title_known : (v : List ℕ) (p : Place) → each (sub_param with_unknown) (present title (kept_title built_in v (Some p))) ≡ sub_param with_unknown (title (title_at built_in (valued v p).value))
-title_known v p = each_one (sub_param with_unknown) (title (title_at built_in (valued v p).value))

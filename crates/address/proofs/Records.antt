@@ -1,10 +1,9 @@
 -- The code's records and answers in the terms of the definitions.
-use Prim.Native.Nat.{ℕ, ◌≤◌}
+use Prim.Native.Nat.{ℕ}
 use mathlib.Core.Path.{◌≡◌, refl, sym, ap, ◌∙◌}
 use mathlib.Core.Bool.{true, false}
 use Rattle.std.specs.Prelude.{Option, None, Some, Result, Ok, Err, is_some}
 use mathlib.Core.List.{[]}
-use lib.Dec.{lit≤}
 use Rattle.bcd.specs.Outcome.{mapped}
 use Rattle.bcd.specs.Answers.{outcome_of}
 use Rattle.bcd.specs.declared.error.Refusal.{Refusal}
@@ -15,13 +14,6 @@ use Rattle.address.specs.Listing.{routing_named}
 use Rattle.address.specs.declared.RoutingIndicator.{RoutingIndicator}
 use Rattle.address.specs.declared.RoutingIndicator.TheVariants as I
 use Rattle.address.specs.declared.GlobalTitle.{GlobalTitle}
-
-pub routing_small : (i : RoutingIndicator) → routing_value i ≤ 4
-routing_small I.Reserved = lit≤ tt
-routing_small I.RouteOnGlobalTitle = lit≤ tt
-routing_small I.RouteOnSsnAndPc = lit≤ tt
-routing_small I.RouteOnHostname = lit≤ tt
-routing_small I.RouteOnSsnAndIp = lit≤ tt
 
 pub named_back : (i : RoutingIndicator) → routing_named (routing_value i) ≡ i
 named_back I.Reserved = refl

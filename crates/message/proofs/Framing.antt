@@ -5,7 +5,7 @@ use mathlib.Core.List.{List, [], ◌∷◌, ◌++◌}
 use native.Mathlib.Omega.{arith}
 use lib.Dec.{leb, eqb}
 use lib.ListN.{length, get_or, drop, length-drop}
-use borrow.Author.Tests.{le-leb, eq-eqb, leb-true, eqb-true}
+use borrow.Author.Tests.{le-leb, leb-true, eqb-true}
 use Rattle.bcd.specs.Outcome.{Outcome, accepted, after, demand, mapped, bounded, All, Octets, most}
 use Rattle.bcd.proofs.Outcomes.{after_inv, mapped_inv, demand_inv, bounded-within, all_drop}
 use Rattle.parameter.specs.Parameter.{Param, round_up, run_octets, run_length, Fits, two_at, four, four_in}
@@ -95,12 +95,6 @@ module _ {K : Type 0} (T : Kinds K) where
         kind = hk;
         walked = hp;
       })
-
-  pub read-of : (xs : List ℕ) (m : Framed K) → HasRead xs m → read_of xs ≡ accepted m
-  unfolding read_of
-  read-of xs m r =
-      bounded-within xs _ r.small
-      ∙ rw (le-leb 8 (length xs) r.large, eq-eqb (get_or xs 0 0) 1 r.version, r.kind, r.walked)
 
   -- What was read fits, and takes no more room when it is written, but for the padding of the last.
   module _ (xs : List ℕ) (m : Framed K) (r : HasRead xs m) where

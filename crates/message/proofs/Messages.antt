@@ -7,9 +7,9 @@ use native.Mathlib.Omega.{arith}
 use borrow.Author.Tests.{le-leb, leb-true}
 use lib.Dec.{leb, eqb}
 use lib.ListN.{length, get_or, drop}
-use Rattle.bcd.specs.Outcome.{Outcome, accepted, refused, after, demand, mapped, each, All, Octets, most}
+use Rattle.bcd.specs.Outcome.{Outcome, accepted, refused, after, demand, mapped, each, All, most}
 use Rattle.bcd.proofs.Outcomes.{accepted_inj, after_inv, mapped_inv, mapped-mapped, demand_inv}
-use Rattle.parameter.specs.Parameter.{Param, run_length, encode_param, Sized, Fits, four_in}
+use Rattle.parameter.specs.Parameter.{Param, run_length, encode_param, Sized, four_in}
 use Rattle.parameter.specs.Walk.{places, valued, parameters}
 use Rattle.parameter.proofs.Structure.{places-parameters}
 use Rattle.parameter.proofs.RoundTrip.{encode_accepts, encode_inv}
@@ -17,8 +17,8 @@ use Rattle.message.specs.declared.types.MessageType.{MessageType}
 use Rattle.message.specs.declared.header.CommonHeader.{CommonHeader}
 use Rattle.message.specs.Types.{class_of, type_of, from_class_type}
 use Rattle.message.specs.Message.{header_with, read_header, Message, read_message, message_places, message_octets, write_message}
-use Rattle.message.proofs.Pairs.{pair_of_type, type_of_pair, class_octet_lem, type_octet}
-use Rattle.message.proofs.Framing.{Kinds, Paired, Framed, read_of, octets_of, octets-length, octets_declared, octets-octets, octets-read, read_inv}
+use Rattle.message.proofs.Pairs.{pair_of_type, type_of_pair}
+use Rattle.message.proofs.Framing.{Kinds, Paired, Framed, read_of, octets_of, octets-length, octets_declared, octets-read, read_inv}
 
 -- SUA's message types.
 abbrev pub sua_kinds : Kinds MessageType
@@ -59,9 +59,6 @@ module _ (m : MessageType) (ps : List Param) where
   -- The message length that is written is the true one, also where other octets follow.
   pub message_declared : (rest : List ℕ) → four_in (drop 4 (message_octets m ps ++ rest)) ≡ length (message_octets m ps)
   message_declared rest = rw (octets-framed m ps) (octets_declared sua_kinds m ps rest)
-
-  pub message-octets : All Fits ps → 8 + run_length ps ≤ most → Octets (message_octets m ps)
-  message-octets fs h = rw (octets-framed m ps) (octets-octets sua_kinds m ps (class_octet_lem m) (type_octet m) fs h)
 
   -- From any type and any list within bounds, reading what was written gives that type and that list.
   pub message_round_trip : 8 + run_length ps ≤ most → read_message (message_octets m ps) ≡ accepted (record { type = m; params = ps })

@@ -1,13 +1,13 @@
 -- `from_class_type` and `class_and_type` are inverse, there are 35 message types, and which pairs are refused.
-use Prim.Native.Nat.{ℕ, zero, suc, ◌+◌, ◌≤◌, ◌<◌}
+use Prim.Native.Nat.{ℕ, zero, suc, ◌+◌, ◌≤◌}
 use mathlib.Core.Path.{◌≡◌, refl, sym, ap, ap₂, ◌∙◌}
 use mathlib.Core.Bool.{Bool, true, false, ◌&&◌}
 use mathlib.Core.Logic.{⊎_elim}
 use mathlib.Core.List.{List, [], ◌∷◌}
 use native.Mathlib.Omega.{arith}
 use native.Mathlib.Nat.{zero-add}
-use lib.Dec.{leb, ltb, eqb, lit≤}
-use borrow.Author.Tests.{eqb-true, leb-true, ltb-true}
+use lib.Dec.{leb, eqb, lit≤}
+use borrow.Author.Tests.{eqb-true, leb-true}
 use Rattle.bcd.specs.Outcome.{Outcome, accepted, refused, pick, every}
 use Rattle.bcd.proofs.Outcomes.{accepted_inj, never, le_or_lt}
 use Rattle.bcd.proofs.Below.{both}
@@ -33,26 +33,6 @@ module _ {A : Type 0} (test : A → Bool) where
           → test x ≡ true
       on true h e ih = ap test (sym (accepted_inj e)) ∙ h
       on false h e ih = ih e
-
-  -- What was found is one of the list.
-  first-among :
-      (f : A → Bool) (xs : List A) (n : ℕ) (vs : List ℕ) (x : A)
-      → first test xs (refused n vs) ≡ accepted x
-      → every f xs ≡ true
-      → f x ≡ true
-  first-among f [] n vs x e h = absurd (never e)
-  first-among f (y ∷ ys) n vs x e h =
-      let (here, others) = both (f y) (every f ys) h in
-      on (test y) e here (λ d. first-among f ys n vs x d others)
-    where
-      on :
-          (t : Bool)
-          → pick t (accepted y) (first test ys (refused n vs)) ≡ accepted x
-          → f y ≡ true
-          → (first test ys (refused n vs) ≡ accepted x → f x ≡ true)
-          → f x ≡ true
-      on true e here ih = ap f (sym (accepted_inj e)) ∙ here
-      on false e here ih = ih e
 
   -- Nothing is found where a property of all rules the test out.
   first_none :
@@ -110,17 +90,6 @@ pair_of_type T.RegReq = refl
 pair_of_type T.RegRsp = refl
 pair_of_type T.DeregReq = refl
 pair_of_type T.DeregRsp = refl
-
--- A test that every type of the list passes, any type passes.
-any_type : (f : MessageType → Bool) → every f message_types ≡ true → (m : MessageType) → f m ≡ true
-unfolding from_class_type
-any_type f e m = first-among (λ k. eqb (class_of m) (class_of k) && eqb (type_of m) (type_of k)) f message_types _ _ m (pair_of_type m) e
-
-pub class_octet_lem : (m : MessageType) → class_of m < 256
-class_octet_lem m = omega (arith, ltb-true (class_of m) 256 (any_type (λ m. ltb (class_of m) 256) refl m))
-
-pub type_octet : (m : MessageType) → type_of m < 256
-type_octet m = omega (arith, ltb-true (type_of m) 256 (any_type (λ m. ltb (type_of m) 256) refl m))
 
 -- A pair that no type has is refused, by a property of all types.
 unknown_pair :

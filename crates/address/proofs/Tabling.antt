@@ -16,12 +16,16 @@ use Rattle.parameter.specs.declared.Place.{Place}
 use Rattle.parameter.proofs.Reaching.{Reached, reached_start, walk_more}
 use Rattle.address.specs.Address.{read_address}
 use Rattle.address.specs.Listing.{is_other, other_places, address_places, address_record, listed, list_address}
-use Rattle.address.specs.Steps.Plan.{Walked, Read, HasRow, rowed}
+use Rattle.address.specs.Steps.Plan.{Walked, Read}
 use Rattle.address.specs.declared.SuaAddress.{SuaAddress}
 use Rattle.address.specs.declared.parts.Parts.{Parts}
 use Rattle.address.proofs.Interpreted.{address, read_whole}
 use Rattle.address.proofs.Others.{others-append, count_known, count_small}
 use Rattle.address.proofs.Copying.{reached_front}
+
+-- A lent table, with a sub-parameter stored in a row where it is another one.
+abbrev rowed : Place → (row : ℕ) → Table → Table
+rowed p row held = pick (is_other p.tag) (set held row p) held
 
 pub record Tabling (v : List ℕ) (t₀ t : Table) (cursor row : ℕ) : Type 0 where
   pub reached : Reached v 4 cursor
@@ -42,7 +46,7 @@ over_more ps p t row e h =
     let l : length (ps ++ (p ∷ [])) ≡ suc (length ps) = rw length-append (omega arith) in
     rw (behind, l, set_at ps (get_or t (length ps) p) rest p row e) (sym (append_assoc ps (p ∷ []) rest))
 
-rows_next : (done : List Place) (p : Place) (t : Table) (row : ℕ) → length (other_places done) ≡ row → HasRow p row t → rowed p row (over (other_places done) t) ≡ over (other_places (done ++ (p ∷ []))) t
+rows_next : (done : List Place) (p : Place) (t : Table) (row : ℕ) → length (other_places done) ≡ row → (is_other p.tag ≡ true → row < length t) → rowed p row (over (other_places done) t) ≡ over (other_places (done ++ (p ∷ []))) t
 rows_next done p t row e h = go (is_other p.tag) refl ∙ sym (ap (λ (ps : List Place). over ps t) (others-append done (p ∷ [])))
   where
     go : (b : Bool) → is_other p.tag ≡ b → pick b (set (over (other_places done) t) row p) (over (other_places done) t) ≡ over (other_places done ++ pick b (p ∷ []) []) t
@@ -53,7 +57,7 @@ rows_next done p t row e h = go (is_other p.tag) refl ∙ sym (ap (λ (ps : List
 pub record Turn (s : Parts) (p : Place) (t : Table) (row : ℕ) : Type 0 where
   pub few : row ≤ most
   pub below : is_other p.tag ≡ true → row < s.other_count
-  pub room : HasRow p row t
+  pub room : is_other p.tag ≡ true → row < length t
 
 module _ {v : List ℕ} {t₀ t : Table} {s : Parts} {cursor row : ℕ} (y : Tabling v t₀ t cursor row) (k : Walked v s) (fits : s.other_count ≤ length t₀)
     (p : Place) (next : ℕ) (e : accepted (found p next) ≡ bounded v (step_at v cursor)) where
@@ -74,8 +78,8 @@ module _ {v : List ℕ} {t₀ t : Table} {s : Parts} {cursor row : ℕ} (y : Tab
       let below : is_other p.tag ≡ true → row < s.other_count = λ o. let one : length (other_places (p ∷ [])) ≡ 1 = rw o in omega (arith, y.place, count_known k) in
       record { few = omega (arith, count_small k); below = below; room = λ o. omega (arith, below o) }
 
-  pub tabling_next : (r : ℕ) (t₁ : Table) → r ≡ row + length (other_places (p ∷ [])) → t₁ ≡ rowed p row t → Tabling v t₀ t₁ next r
-  tabling_next r t₁ m h =
+  tabled_next : (r : ℕ) (t₁ : Table) → r ≡ row + length (other_places (p ∷ [])) → t₁ ≡ rowed p row t → Tabling v t₀ t₁ next r
+  tabled_next r t₁ m h =
       let more = ap length (others-append done (p ∷ [])) ∙ length-append (other_places done) (other_places (p ∷ [])) in
       let turn = tabling_turn in
       record {
@@ -83,6 +87,13 @@ module _ {v : List ℕ} {t₀ t : Table} {s : Parts} {cursor row : ℕ} (y : Tab
         rows = h ∙ ap (rowed p row) y.rows ∙ rows_next done p t₀ row y.place (λ o. omega (arith, turn.below o));
         place = omega (arith, more, y.place);
       }
+
+  -- It is another one, and stored; or it is none.
+  pub tabling_next : is_other p.tag ≡ true → Tabling v t₀ (set t row p) next (row + 1)
+  tabling_next o = tabled_next (row + 1) (set t row p) (rw o) (rw o)
+
+  pub tabling_passed : is_other p.tag ≡ false → Tabling v t₀ t next row
+  tabling_passed o = tabled_next row t (rw o (omega arith)) (rw o)
 
 -- The places of an address that was read.
 pub places-known : {v : List ℕ} {s : Parts} (r : Read v s) → address_places v ≡ accepted (other_places r.known.places)

@@ -8,27 +8,12 @@ ghost use Rattle.address.specs.Address.{read_address};
 ghost use Rattle.address.specs.Titles.{record_of};
 ghost use Rattle.address.specs.Listing.{other_places, address_places, address_record, listed, list_address};
 ghost use Rattle.address.specs.Steps.Kept.{kept_title};
-ghost use Rattle.address.specs.Steps.Plan.{HasRow, rowed};
 
 use crate::interpret::{Interpreted, interpret};
 use crate::rewrite::is_other;
 use crate::{GlobalTitle, RoutingIndicator, SuaAddress};
 use bcd::error::Refusal;
 use parameter::{Parameters, Place};
-
-// Stores a sub-parameter of the walk in a row of the table, if it is another one, and answers the next row.
-fn list_other(place: Place, row: usize, rows: &mut [Place]) -> usize
-    requires row_le_most { row ≤ most }
-    requires has_row { HasRow place row rows.old }
-    ensures value { result ≡ row + length (other_places (place ∷ [])) }
-    ensures rows_after { rows.new ≡ rowed place row rows.old }
-{
-    if is_other(place.tag) {
-        rows[row] = place;
-        return row + 1;
-    }
-    row
-}
 
 impl<'a> Interpreted<'a> {
     // The record of the title, if there is one.
@@ -71,7 +56,11 @@ impl<'a> Interpreted<'a> {
     {
         let mut row = 0;
         for place in Parameters::new(self.value, 4) {
-            row = list_other(place?, row, rows);
+            let place = place?;
+            if is_other(place.tag) {
+                rows[row] = place;
+                row += 1;
+            }
         }
         Ok(row)
     }

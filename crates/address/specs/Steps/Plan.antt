@@ -1,20 +1,19 @@
 -- An address value that was interpreted, and can be written.
-use Rattle.std.specs.Prelude.{ℕ, ◌+◌, ◌%◌, ◌≤◌, ◌<◌, ◌≡◌, true, List, [], ◌++◌, map, length, get_or, set}
+use Rattle.std.specs.Prelude.{ℕ, ◌+◌, ◌%◌, ◌≤◌, ◌≡◌, List, [], ◌++◌, map, length, get_or}
 use Rattle.std.specs.Prelude.{Option, None, Some, Result, Ok, Err}
-use Rattle.bcd.specs.Outcome.{Outcome, accepted, refused, pick, after, each, Octets, most}
+use Rattle.bcd.specs.Outcome.{Outcome, accepted, refused, after, each, Octets, most}
 use Rattle.bcd.specs.Answers.{refusal_of}
 use Rattle.bcd.specs.Digits.{Alphabet, built_in}
 use Rattle.bcd.specs.declared.error.Refusal.{Refusal}
 use Rattle.parameter.specs.Parameter.{Param, two, two_at, run_octets, run_length, most_value}
 use Rattle.parameter.specs.Walk
 use Rattle.parameter.specs.Walk.{valued}
-use Rattle.parameter.specs.Table.{Table}
 use Rattle.parameter.specs.declared.Place.{Place}
 use Rattle.address.specs.Address.{sub_param, read_address, write_address}
 use Rattle.address.specs.Parts.{nothing, note_all}
 use Rattle.address.specs.Again.{with_unknown}
 use Rattle.address.specs.Steps.Kept.{kept_pieces}
-use Rattle.address.specs.Listing.{is_other, other_places}
+use Rattle.address.specs.Listing.{other_places}
 use Rattle.address.specs.declared.parts.Parts.{Parts}
 use Rattle.address.specs.declared.interpret.Digits.{Digits}
 use Rattle.address.specs.declared.interpret.Digits.TheVariants as D
@@ -71,11 +70,3 @@ places_in (refused n vs) = []
 
 unfoldable pub others_octets : List ℕ → List ℕ
 others_octets v = run_octets (map (valued v) (other_places (places_in (Walk.places v 4))))
-
--- A lent table has a row for a sub-parameter, where it is another one.
-abbrev pub HasRow : Place → (row : ℕ) → Table → Type 0
-HasRow p row held = is_other p.tag ≡ true → row < length held
-
--- A lent table, with a sub-parameter stored in a row where it is another one.
-abbrev pub rowed : Place → (row : ℕ) → Table → Table
-rowed p row held = pick (is_other p.tag) (set held row p) held

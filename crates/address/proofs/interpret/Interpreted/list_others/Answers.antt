@@ -1,12 +1,13 @@
 -- `address::interpret::Interpreted::list_others` meets its contract: the loop has stored the others that the walk has come to.
 use mathlib.Core.Path.{sym, ap, ◌∙◌, subst}
 use Prim.Native.Nat.{ℕ}
+use native.Mathlib.Omega.{arith}
 use Rattle.bcd.proofs.Outcomes.{never, bounded-within}
 use Rattle.parameter.specs.Walk.{places}
 use Rattle.parameter.specs.declared.Parameters.{Parameters}
 use Rattle.parameter.proofs.Reaching.{walk_refused, reached_end, walk_step}
 use Rattle.address.proofs.Held.{read-of}
-use Rattle.address.proofs.Tabling.{Tabling, tabling_start, tabling_turn, tabling_next, tabled}
+use Rattle.address.proofs.Tabling.{Tabling, tabling_start, tabling_turn, tabling_next, tabling_passed, tabled}
 use Rattle.address.proofs.interpret.Interpreted.list_others.Goals as goal
 
 pub loop-place-init : goal.loop-place-init
@@ -27,24 +28,33 @@ returns-in_err-place c =
     let none = walk_refused y.1.reached _ _ (rw y.0 at s.1) in
     absurd (never (sym none ∙ bounded-within c.args.self.now.value.now (places c.args.self.now.value.now 4) k.within ∙ k.walked))
 
-pub list_other-row-requires-clause-row_le_most : goal.list_other-row-requires-clause-row_le_most
-list_other-row-requires-clause-row_le_most c =
+pub bounds-rows-row : goal.bounds-rows-row
+bounds-rows-row c =
     let s = rw (c.in_ok-place.was) at c.in-Some.ensures.steps in
     let y = c.loop-place.invariant in
-    (tabling_turn y.1 (read-of c.args.self.now).known c.requires _ _ (rw y.0 at s.1)).few
+    let k = (read-of c.args.self.now).known in
+    (tabling_turn y.1 k c.requires _ _ (rw y.0 at s.1)).room (sym c.is_other.ensures ∙ c.if-is_other.true)
 
-pub list_other-row-requires-clause-has_row : goal.list_other-row-requires-clause-has_row
-list_other-row-requires-clause-has_row c =
+pub overflow_add-row : goal.overflow_add-row
+overflow_add-row c =
     let s = rw (c.in_ok-place.was) at c.in-Some.ensures.steps in
     let y = c.loop-place.invariant in
-    (tabling_turn y.1 (read-of c.args.self.now).known c.requires _ _ (rw y.0 at s.1)).room
+    let k = (read-of c.args.self.now).known in
+    omega (arith, (tabling_turn y.1 k c.requires _ _ (rw y.0 at s.1)).few)
+
+pub loop-place-preserved-then-is_other : goal.loop-place-preserved-then-is_other
+loop-place-preserved-then-is_other c =
+    let s = rw (c.in_ok-place.was) at c.in-Some.ensures.steps in
+    let y = c.loop-place.invariant in
+    let k = (read-of c.args.self.now).known in
+    (s.0 ∙ y.0, tabling_next y.1 k c.requires _ _ (rw y.0 at s.1) (sym c.is_other.ensures ∙ c.if-is_other.true))
 
 pub loop-place-preserved : goal.loop-place-preserved
 loop-place-preserved c =
     let s = rw (c.in_ok-place.was) at c.in-Some.ensures.steps in
     let y = c.loop-place.invariant in
-    let e = c.list_other-row.ensures in
-    (s.0 ∙ y.0, tabling_next y.1 (read-of c.args.self.now).known c.requires _ _ (rw y.0 at s.1) _ _ e.value e.rows_after)
+    let k = (read-of c.args.self.now).known in
+    (s.0 ∙ y.0, tabling_passed y.1 k c.requires _ _ (rw y.0 at s.1) (sym c.is_other.ensures ∙ c.if-is_other.false))
 
 pub returns : goal.returns
 returns c =

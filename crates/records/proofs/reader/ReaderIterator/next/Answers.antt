@@ -1,5 +1,5 @@
 -- Each item leaves fewer octets ahead.
-use Rattle.std.proofs.Common.{◌≡◌, ◌<◌, arith}
+use Rattle.std.proofs.Common.{arith}
 use Rattle.records.proofs.Reading.{moved_less, refused_some}
 use Rattle.records.proofs.reader.ReaderIterator.next.Goals as goal
 

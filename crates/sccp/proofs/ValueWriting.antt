@@ -9,26 +9,26 @@ use borrow.Rule.Slice.PartMut.{mid_of, put_mid}
 use lib.ListN.{length, take, drop, length-append, length-take, length-drop, take-append-drop}
 use lib.Seq.{length-take-le}
 use Rattle.std.specs.Prelude.{Option, None, Some, option_map, is_some}
-use Rattle.bcd.specs.Outcome.{Outcome, accepted, refused, pick, after, mapped, each, All, Delivered, deliver}
+use Rattle.bcd.specs.Outcome.{Outcome, accepted, refused, pick, after, mapped, each, All, deliver}
 use Rattle.bcd.specs.Digits.{built_in}
 use Rattle.bcd.proofs.Outcomes.{all_append, deliver_answer, deliver_too_long}
 use Rattle.bcd.proofs.Writing.{Begun, begin, extend, extend_all, delivered}
 use Rattle.parameter.specs.Parameter.{Param, param, two, four, param_octets, run_octets, run_length, most_value, Sized}
 use Rattle.parameter.specs.Parameter.{encode_param, frame_param}
 use Rattle.parameter.specs.Table.{over}
-use Rattle.parameter.proofs.RoundTrip.{octets-length, run_length_lem, run_octets-append, encode_accepts}
+use Rattle.parameter.proofs.RoundTrip.{octets-length, run_length_lem, encode_accepts}
 use Rattle.parameter.proofs.Encoding.{frame_known}
 use Rattle.parameter.proofs.InPlace.{framed-there}
 use Rattle.address.specs.Address as Sua
 use Rattle.address.specs.Address.{sub_param, write_title, write_address, pieces, sized}
 use Rattle.address.specs.Steps.GivenParts.{sub_value, given_param}
 use Rattle.address.proofs.Planning.{each_one, param_of, code_param, sub_one, map-some, four-length, parts-written}
-use Rattle.address.proofs.Delivering.{parts-length}
+use Rattle.address.proofs.Delivering.{Wrote, wrote, wrote_never, parts-length, parts_none}
 use Rattle.sccp.specs.Steps.{title_from, address_from, packed, title_param, param_length, head_from, value_length}
 use Rattle.sccp.specs.declared.common.Title.{Title}
 use Rattle.sccp.specs.declared.common.Common.{Common}
 use Rattle.sccp.proofs.Copying.{packed-length, digits_count, digits-written}
-use Rattle.sccp.proofs.Writing.{Put, put-behind, put-never, room-behind}
+use Rattle.sccp.proofs.Writing.{Put, put-behind, room-behind}
 
 -- The value of a title in front of its digits, all of it, and the sub-parameter, if the title is there.
 abbrev pub title_head : Title → List ℕ
@@ -135,18 +135,6 @@ write_steps :
     → after o (λ ps. after (each encode_param ps) (λ os. sized tag (head ++ os))) ≡ accepted (head ++ run_octets qs)
 write_steps tag head o qs e small h = rw (e, encode_accepts qs small, le-leb (length (head ++ run_octets qs)) most_value h)
 
--- Three runs behind a head, as one.
-parts_whole : (head : List ℕ) (ts cs us : List Param) → head ++ run_octets (ts ++ (cs ++ (us ++ []))) ≡ ((head ++ run_octets ts) ++ run_octets cs) ++ run_octets us
-unfolding run_octets
-parts_whole head ts cs us =
-    let t = run_octets ts in
-    let c = run_octets cs in
-    let u = run_octets us in
-    ap (λ l. head ++ l)
-    (run_octets-append ts (cs ++ (us ++ []))
-    ∙ ap (λ l. t ++ l) (run_octets-append cs (us ++ []) ∙ ap (λ l. c ++ l) (run_octets-append us [] ∙ append-nil u)))
-    ∙ sym (append_assoc (head ++ t) c u ∙ append_assoc head t (c ++ u))
-
 -- The octets of an address: the sub-parameters of each part ..
 module _ (p : Common) where
   abbrev pub titles : List Param
@@ -238,91 +226,77 @@ module _ (p : Common) (out : List ℕ) (room : value_length p ≤ length out) {f
   front : Begun out (head_from p) first
   front = begin out (head_from p) first (omega arith) head
 
-  title-room : 4 + length (run_octets (titles p)) ≤ length out
-  title-room = omega (arith, run_length_lem (titles p), title_size p.title)
+  title-room : 4 + run_length (titles p) ≤ length out
+  title-room = omega (arith, title_size p.title)
 
   abbrev lent : List ℕ
   lent = mid_of 4 (length first - 4) first
 
   pub room_title : param_length p.title ≤ length lent
-  room_title = omega (arith, room-behind (run_octets (titles p)) 4 front refl title-room, run_length_lem (titles p), title_size p.title)
-
-  told : {d : Delivered} → d ≡ deliver (mapped run_octets (title_param p.title)) lent → d ≡ deliver (accepted (run_octets (titles p))) lent
-  told e = e ∙ ap (λ (o : Outcome (List Param)). deliver (mapped run_octets o) lent) (title_known p.title)
+  room_title =
+      let l = run_length_lem (titles p) in
+      omega (arith, room-behind (run_octets (titles p)) 4 front refl (omega (arith, title-room)), title_size p.title)
 
   pub title_never :
       {X : Type 0} {n : ℕ} {vs x : List ℕ}
       → record { answer = refused n vs; buffer = x } ≡ deliver (mapped run_octets (title_param p.title)) lent
       → X
-  title_never e = put-never (run_octets (titles p)) 4 front refl title-room (told e)
+  title_never = wrote_never 4 front refl (title_param p.title) (titles p) (title_known p.title) title-room
 
   module _ {a : ℕ} {x : List ℕ} (put_a : record { answer = accepted a; buffer = x } ≡ deliver (mapped run_octets (title_param p.title)) lent) where
-    pub titled : Put out (head_from p) (run_octets (titles p)) first 4 a x
-    titled = put-behind (run_octets (titles p)) 4 front refl title-room a x (told put_a)
+    pub titled : Wrote out (head_from p) first 4 (titles p) a x
+    titled = wrote 4 front refl (title_param p.title) (titles p) (title_known p.title) title-room a x put_a
 
     abbrev pub second : List ℕ
     second = put_mid 4 (length first - 4) first x
 
-    code-room : 4 + a + length (run_octets (codes p)) ≤ length out
-    code-room = omega (arith, titled.count, run_length_lem (titles p), title_size p.title, run_length_lem (codes p), codes-size p)
+    code-room : 4 + a + run_length (codes p) ≤ length out
+    code-room = omega (arith, titled.count, title_size p.title, codes-size p)
 
     module _ {code : Option (List ℕ)} (code-is : code ≡ option_map four p.point_code) where
       abbrev code_lent : List ℕ
       code_lent = mid_of (4 + a) (length second - (4 + a)) second
 
-      code_told :
-          {d : Delivered} → d ≡ deliver (accepted (run_octets (given_param 0x8002 code))) code_lent → d ≡ deliver (accepted (run_octets (codes p))) code_lent
-      code_told e = e ∙ ap (λ (c : Option (List ℕ)). deliver (accepted (run_octets (given_param 0x8002 c))) code_lent) code-is
+      code_told : accepted (given_param 0x8002 code) ≡ accepted (codes p)
+      code_told = ap (λ (c : Option (List ℕ)). accepted (given_param 0x8002 c)) code-is
 
       pub code_never :
           {X : Type 0} {n : ℕ} {vs y : List ℕ}
           → record { answer = refused n vs; buffer = y } ≡ deliver (accepted (run_octets (given_param 0x8002 code))) code_lent
           → X
-      code_never e = put-never (run_octets (codes p)) (4 + a) titled.begun titled.place code-room (code_told e)
+      code_never = wrote_never (4 + a) titled.begun titled.place (accepted (given_param 0x8002 code)) (codes p) code_told code-room
 
       module _ {b : ℕ} {y : List ℕ} (put_b : record { answer = accepted b; buffer = y } ≡ deliver (accepted (run_octets (given_param 0x8002 code))) code_lent) where
-        pub coded : Put out (up_to_title p) (run_octets (codes p)) second (4 + a) b y
-        coded = put-behind (run_octets (codes p)) (4 + a) titled.begun titled.place code-room b y (code_told put_b)
+        pub coded : Wrote out (up_to_title p) second (4 + a) (codes p) b y
+        coded = wrote (4 + a) titled.begun titled.place (accepted (given_param 0x8002 code)) (codes p) code_told code-room b y put_b
 
         abbrev pub third : List ℕ
         third = put_mid (4 + a) (length second - (4 + a)) second y
 
-        sub-room : 4 + a + b + length (run_octets (subs p)) ≤ length out
-        sub-room =
-            omega (
-              arith,
-              titled.count,
-              coded.count,
-              run_length_lem (titles p),
-              title_size p.title,
-              run_length_lem (codes p),
-              codes-size p,
-              run_length_lem (subs p),
-              subs-size p,
-            )
+        sub-room : 4 + a + b + run_length (subs p) ≤ length out
+        sub-room = omega (arith, titled.count, coded.count, title_size p.title, codes-size p, subs-size p)
 
         module _ {sub : Option (List ℕ)} (sub-is : sub ≡ option_map sub_value p.ssn) where
           abbrev sub_lent : List ℕ
           sub_lent = mid_of (4 + a + b) (length third - (4 + a + b)) third
 
-          sub_told :
-              {d : Delivered} → d ≡ deliver (accepted (run_octets (given_param 0x8003 sub))) sub_lent → d ≡ deliver (accepted (run_octets (subs p))) sub_lent
-          sub_told e = e ∙ ap (λ (c : Option (List ℕ)). deliver (accepted (run_octets (given_param 0x8003 c))) sub_lent) sub-is
+          sub_told : accepted (given_param 0x8003 sub) ≡ accepted (subs p)
+          sub_told = ap (λ (c : Option (List ℕ)). accepted (given_param 0x8003 c)) sub-is
 
           pub sub_never :
               {X : Type 0} {n : ℕ} {vs z : List ℕ}
               → record { answer = refused n vs; buffer = z } ≡ deliver (accepted (run_octets (given_param 0x8003 sub))) sub_lent
               → X
-          sub_never e = put-never (run_octets (subs p)) (4 + a + b) coded.begun coded.place sub-room (sub_told e)
+          sub_never = wrote_never (4 + a + b) coded.begun coded.place (accepted (given_param 0x8003 sub)) (subs p) sub_told sub-room
 
           module _ {e : ℕ} {z : List ℕ} (put_e : record { answer = accepted e; buffer = z } ≡ deliver (accepted (run_octets (given_param 0x8003 sub))) sub_lent) where
-            pub subbed : Put out (up_to_code p) (run_octets (subs p)) third (4 + a + b) e z
-            subbed = put-behind (run_octets (subs p)) (4 + a + b) coded.begun coded.place sub-room e z (sub_told put_e)
+            pub subbed : Wrote out (up_to_code p) third (4 + a + b) (subs p) e z
+            subbed = wrote (4 + a + b) coded.begun coded.place (accepted (given_param 0x8003 sub)) (subs p) sub_told sub-room e z put_e
 
             pub value_done :
                 record { answer = accepted (4 + a + b + e); buffer = put_mid (4 + a + b) (length third - (4 + a + b)) third z }
                 ≡ deliver (write_address built_in 0 (address_from p)) out
             value_done =
-                delivered (4 + a + b + e) subbed.begun subbed.place
-                ∙ ap (λ (os : List ℕ). deliver (accepted os) out) (sym (parts_whole (head_from p) (titles p) (codes p) (subs p)))
+                parts_none (head_from p) (titles p) (codes p) (subs p) [] (4 + a + b + e) refl subbed.begun
+                (value-size p ∙ omega (arith, titled.count, coded.count, subbed.count, title_size p.title, codes-size p, subs-size p))
                 ∙ ap (λ (o : Outcome (List ℕ)). deliver o out) (sym (value-known p))

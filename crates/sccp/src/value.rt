@@ -3,7 +3,7 @@ ghost use Rattle.std.specs.Prelude.{◌≡◌, ◌++◌, ◌≤◌, leb, length,
 ghost use Rattle.bcd.specs.Outcome.{after, mapped, delivered, deliver};
 ghost use Rattle.bcd.specs.Answers.{outcome_of};
 ghost use Rattle.bcd.specs.Digits.{built_in};
-ghost use Rattle.parameter.specs.Parameter.{four, run_octets};
+ghost use Rattle.parameter.specs.Parameter.{run_octets};
 ghost use Rattle.address.specs.Address.{title_at, read_address, write_address};
 ghost use Rattle.address.specs.Steps.Kept.{kept_title, kept_code};
 ghost use Rattle.sccp.specs.Sccp.{absent_or, title_converts, converts};

@@ -28,7 +28,7 @@ use Rattle.sccp.specs.Steps.{title_from, address_from, packed, title_param, para
 use Rattle.sccp.specs.declared.common.Title.{Title}
 use Rattle.sccp.specs.declared.common.Common.{Common}
 use Rattle.sccp.proofs.Copying.{packed-length, digits_count, digits-written}
-use Rattle.sccp.proofs.Writing.{Put, put-behind, room-behind}
+use Rattle.sccp.proofs.Writing.{Put, put-behind}
 
 -- The value of a title in front of its digits, all of it, and the sub-parameter, if the title is there.
 abbrev pub title_head : Title → List ℕ
@@ -231,11 +231,6 @@ module _ (p : Common) (out : List ℕ) (room : value_length p ≤ length out) {f
 
   abbrev lent : List ℕ
   lent = mid_of 4 (length first - 4) first
-
-  pub room_title : param_length p.title ≤ length lent
-  room_title =
-      let l = run_length_lem (titles p) in
-      omega (arith, room-behind (run_octets (titles p)) 4 front refl (omega (arith, title-room)), title_size p.title)
 
   pub title_never :
       {X : Type 0} {n : ℕ} {vs x : List ℕ}

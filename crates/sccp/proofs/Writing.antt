@@ -5,8 +5,8 @@ use mathlib.Core.List.{List, ◌++◌}
 use native.Mathlib.Omega.{arith}
 use borrow.Rule.Slice.PartMut.{mid_of, put_mid}
 use lib.ListN.{length, length-append, length-take, length-drop}
-use Rattle.bcd.specs.Outcome.{accepted, refused, deliver}
-use Rattle.bcd.proofs.Outcomes.{accepted_inj, never, deliver_buffer, deliver_answer}
+use Rattle.bcd.specs.Outcome.{accepted, deliver}
+use Rattle.bcd.proofs.Outcomes.{accepted_inj, deliver_buffer, deliver_answer}
 use Rattle.bcd.proofs.Writing.{Begun, extend}
 
 -- What a writer that was lent the buffer from a place on put behind what was begun.
@@ -16,7 +16,7 @@ pub record Put (out p q d : List ℕ) (at r : ℕ) (last : List ℕ) : Type 0 wh
   pub place : length (p ++ q) ≡ at + r
 
 module _ {out p d : List ℕ} (q : List ℕ) (at : ℕ) (b : Begun out p d) (place : length p ≡ at) (room : at + length q ≤ length out) where
-  pub room-behind : length q ≤ length (mid_of at (length d - at) d)
+  room-behind : length q ≤ length (mid_of at (length d - at) d)
   room-behind = simp (length-take, length-drop) (omega (arith, b.same))
 
   pub put-behind :
@@ -31,9 +31,3 @@ module _ {out p d : List ℕ} (q : List ℕ) (at : ℕ) (b : Begun out p d) (pla
         begun = extend q last at (length d - at) b place (omega (arith, b.same)) (omega (arith, b.same)) buffer;
         place = rw (length-append p q) (omega arith);
       }
-
-  pub put-never :
-      {X : Type 0} {n : ℕ} {vs last : List ℕ}
-      → record { answer = refused n vs; buffer = last } ≡ deliver (accepted q) (mid_of at (length d - at) d)
-      → X
-  put-never e = absurd (never (deliver_answer q (mid_of at (length d - at) d) room-behind e))

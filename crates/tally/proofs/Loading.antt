@@ -99,6 +99,18 @@ unfolding valid_members
 load_distinct ds ns l d =
     rw (l, d) (codes-distinct (members ds ns) (members-every (between 0x30 0x39) ds ns d))
 
+-- The same, as a call goes.
+pub loaded :
+    (ds ns : List ℕ) {held : List ℕ} {lengths decimal unalike : Bool}
+    → lengths ≡ valid_lengths (length ds) ns
+    → lengths ≡ true
+    → decimal ≡ every (between 0x30 0x39) ds
+    → decimal ≡ true
+    → held ≡ codes (members ds ns)
+    → unalike ≡ unlike held
+    → unalike ≡ valid_members ds ns
+loaded ds ns l lt d dt h u = u ∙ ap unlike h ∙ load_distinct ds ns (sym l ∙ lt) (sym d ∙ dt)
+
 -- Of a list that keeps the rules the members, their lengths and the numbers stored belong together.
 module _ {ds ns held : List ℕ} (n : Numbered ds ns held) where
   pub listed : Lengths (length ds) ns × (every (between 0x30 0x39) ds ≡ true)

@@ -8,8 +8,7 @@ use Rattle.bcd.specs.Outcome.{accepted}
 use Rattle.tally.specs.Members.{valid_members}
 use Rattle.tally.specs.Rows.{Rows, rows, valid_rows}
 use Rattle.tally.specs.Tally.{tallied}
-use Rattle.tally.specs.Steps.Codes.{unlike}
-use Rattle.tally.proofs.Loading.{load_lengths, load_digits, load_distinct}
+use Rattle.tally.proofs.Loading.{load_lengths, load_digits, loaded}
 use Rattle.tally.proofs.Calls.{call_gains, has_room}
 use Rattle.tally.proofs.Day.{list_first}
 use Rattle.tally.proofs.tally.Goals as goal
@@ -26,8 +25,7 @@ returns-then-not-valid_lengths c =
 pub returns-then-not-distinct : goal.returns-then-not-distinct
 returns-then-not-distinct c =
     let listed : c.distinct.result ≡ valid_members c.args.digits.now c.args.lengths.now =
-    c.distinct.ensures ∙ ap unlike c.numbers-numbers.ensures
-    ∙ load_distinct c.args.digits.now c.args.lengths.now (sym c.valid_lengths.ensures ∙ c.if-not-valid_lengths.false) (sym c.decimal.ensures ∙ c.if-not-decimal.false) in
+    loaded c.args.digits.now c.args.lengths.now c.valid_lengths.ensures c.if-not-valid_lengths.false c.decimal.ensures c.if-not-decimal.false c.numbers-numbers.ensures c.distinct.ensures in
     let refused = list_first c.args.digits.now c.args.lengths.now c.args.input.now (rows c.args.messages.now c.args.octets.now) in
     elim c.then-not-distinct.branch [
       | then-not-distinct-via-then-not-distinct w ↦ sym (refused (inl (sym listed ∙ w.if-not-distinct.true)))
@@ -37,8 +35,7 @@ returns-then-not-distinct c =
 pub new-requires : goal.new-requires
 new-requires c =
     let listed : c.distinct.result ≡ valid_members c.args.digits.now c.args.lengths.now =
-    c.distinct.ensures ∙ ap unlike c.numbers-numbers.ensures
-    ∙ load_distinct c.args.digits.now c.args.lengths.now (sym c.valid_lengths.ensures ∙ c.if-not-valid_lengths.false) (sym c.decimal.ensures ∙ c.if-not-decimal.false) in
+    loaded c.args.digits.now c.args.lengths.now c.valid_lengths.ensures c.if-not-valid_lengths.false c.decimal.ensures c.if-not-decimal.false c.numbers-numbers.ensures c.distinct.ensures in
     record { valid = sym listed ∙ c.if-not-distinct.false; same = c.numbers-numbers.ensures }
 
 pub gain-requires : goal.gain-requires
@@ -49,8 +46,8 @@ gain-requires c =
 pub returns : goal.returns
 returns c =
     let listed : valid_members c.args.digits.now c.args.lengths.now ≡ true =
-    sym (load_distinct c.args.digits.now c.args.lengths.now (sym c.valid_lengths.ensures ∙ c.if-not-valid_lengths.false) (sym c.decimal.ensures ∙ c.if-not-decimal.false))
-    ∙ sym (c.distinct.ensures ∙ ap unlike c.numbers-numbers.ensures) ∙ c.if-not-distinct.false in
+    sym (loaded c.args.digits.now c.args.lengths.now c.valid_lengths.ensures c.if-not-valid_lengths.false c.decimal.ensures c.if-not-decimal.false c.numbers-numbers.ensures c.distinct.ensures)
+    ∙ c.if-not-distinct.false in
     let valid : valid_rows (length c.args.lengths.now) (rows c.args.messages.now c.args.octets.now) ≡ true = sym c.valid.ensures ∙ c.if-not-valid.false in
     ap (λ (r : Rows). tallied (accepted c.place-gain.result.row) r) c.gain.ensures
     ∙ sym (call_gains c.args.digits.now c.args.lengths.now c.args.input.now (rows c.args.messages.now c.args.octets.now) c.place-gain.result (rw (listed, valid)) (rw c.new.ensures at c.place-gain.ensures))

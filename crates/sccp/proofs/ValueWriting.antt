@@ -24,6 +24,8 @@ use Rattle.address.specs.Address.{sub_param, write_title, write_address, pieces,
 use Rattle.address.specs.Steps.GivenParts.{sub_value, given_param}
 use Rattle.address.proofs.Planning.{each_one, param_of, code_param, sub_one, map-some, four-length, parts-written}
 use Rattle.address.proofs.Delivering.{Wrote, wrote, wrote_never, parts-length, parts_none}
+use Rattle.address.proofs.Numbers
+use Rattle.address.proofs.Numbers.{behind, Stands, coded, subbed}
 use Rattle.sccp.specs.Steps.{title_from, address_from, packed, title_param, param_length, head_from, value_length}
 use Rattle.sccp.specs.declared.common.Title.{Title}
 use Rattle.sccp.specs.declared.common.Common.{Common}
@@ -118,11 +120,6 @@ module _ (t : Title) (out head : List ℕ) (room : param_length (Some t) ≤ len
         ∙ ap (λ (os : List ℕ). deliver (accepted os) out) (sym (one_run (title_one t)))
         ∙ ap (λ (o : Outcome (List Param)). deliver (mapped run_octets o) out) (sym (title_known (Some t)))
 
--- A part of four octets.
-given : (tag : ℕ) (f : ℕ → List ℕ) (o : Option ℕ) → given_param tag (option_map f o) ≡ param_of (λ n. param tag (f n)) o
-given tag f None = refl
-given tag f (Some n) = refl
-
 pick-most : (b : Bool) (n : ℕ) → pick b n 0 ≤ n
 pick-most true n = omega arith
 pick-most false n = omega arith
@@ -141,35 +138,23 @@ module _ (p : Common) where
   titles = title_params p.title
 
   abbrev pub codes : List Param
-  codes = given_param 0x8002 (option_map four p.point_code)
+  codes = Numbers.codes p.point_code p.ssn
 
   abbrev pub subs : List Param
-  subs = given_param 0x8003 (option_map sub_value p.ssn)
+  subs = Numbers.subs p.point_code p.ssn
 
-  -- .. the front up to the title and up to the point code, and all of it.
+  -- .. the front up to the title, and all sub-parameters.
   abbrev pub up_to_title : List ℕ
   up_to_title = head_from p ++ run_octets titles
-
-  abbrev pub up_to_code : List ℕ
-  up_to_code = up_to_title ++ run_octets codes
-
-  abbrev pub up_to_sub : List ℕ
-  up_to_sub = up_to_code ++ run_octets subs
 
   abbrev all : List Param
   all = titles ++ (codes ++ (subs ++ []))
 
-  codes-known : codes ≡ param_of code_param p.point_code
-  codes-known = given (0x8002) four p.point_code
-
-  subs-known : subs ≡ param_of sub_one p.ssn
-  subs-known = given (0x8003) sub_value p.ssn
-
   codes-size : run_length codes ≡ pick (is_some p.point_code) 8 0
-  codes-size = ap run_length codes-known ∙ four-length code_param (λ n. refl) p.point_code
+  codes-size = four-length code_param (λ n. refl) p.point_code
 
   subs-size : run_length subs ≡ pick (is_some p.ssn) 8 0
-  subs-size = ap run_length subs-known ∙ four-length sub_one (λ n. refl) p.ssn
+  subs-size = four-length sub_one (λ n. refl) p.ssn
 
   all-size : 4 + run_length all ≡ value_length p
   unfolding run_length
@@ -182,8 +167,8 @@ module _ (p : Common) where
   all_small : All Sized all
   all_small =
       all_append Sized titles (codes ++ (subs ++ [])) (title_small p.title)
-      (all_append Sized codes (subs ++ []) (rw codes-known (four_small code_param (λ n. refl) p.point_code))
-      (all_append Sized subs [] (rw subs-known (four_small sub_one (λ n. refl) p.ssn)) tt))
+      (all_append Sized codes (subs ++ []) (four_small code_param (λ n. refl) p.point_code)
+      (all_append Sized subs [] (four_small sub_one (λ n. refl) p.ssn) tt))
 
   title_few : (t : Option Title) → param_length t ≤ 140
   title_few None = omega arith
@@ -199,7 +184,6 @@ module _ (p : Common) where
   unfolding pieces
   pieces-known =
       parts-written built_in (option_map title_from p.title) p.point_code p.ssn [] titles (title_known p.title)
-      ∙ rw (codes-known, subs-known)
 
   head_known : two (address_from p).routing ++ two (Sua.indicator (address_from p)) ≡ head_from p
   unfolding Sua.indicator
@@ -221,7 +205,11 @@ module _ (p : Common) where
       deliver_too_long (write_address built_in 0 (address_from p)) (value_length p) out
       (ap accepted (sym value-size) ∙ sym (ap (mapped length) value-known)) h
 
--- The buffer after the head, and after each part that a writer put behind it.
+-- The buffer once the title is written behind the head.
+pub record Titled (p : Common) (out d : List ℕ) (at : ℕ) : Type 0 where
+  pub stands : Stands out (up_to_title p) d at
+  pub room : at + run_length (codes p) + run_length (subs p) ≤ length out
+
 module _ (p : Common) (out : List ℕ) (room : value_length p ≤ length out) {first : List ℕ} (head : first ≡ head_from p ++ drop 4 out) where
   front : Begun out (head_from p) first
   front = begin out (head_from p) first (omega arith) head
@@ -229,69 +217,36 @@ module _ (p : Common) (out : List ℕ) (room : value_length p ≤ length out) {f
   title-room : 4 + run_length (titles p) ≤ length out
   title-room = omega (arith, title_size p.title)
 
-  abbrev lent : List ℕ
-  lent = mid_of 4 (length first - 4) first
-
   pub title_never :
       {X : Type 0} {n : ℕ} {vs x : List ℕ}
-      → record { answer = refused n vs; buffer = x } ≡ deliver (mapped run_octets (title_param p.title)) lent
+      → record { answer = refused n vs; buffer = x } ≡ deliver (mapped run_octets (title_param p.title)) (mid_of 4 (length first - 4) first)
       → X
   title_never = wrote_never 4 front refl (title_param p.title) (titles p) (title_known p.title) title-room
 
-  module _ {a : ℕ} {x : List ℕ} (put_a : record { answer = accepted a; buffer = x } ≡ deliver (mapped run_octets (title_param p.title)) lent) where
-    pub titled : Wrote out (head_from p) first 4 (titles p) a x
-    titled = wrote 4 front refl (title_param p.title) (titles p) (title_known p.title) title-room a x put_a
+  module _ {a : ℕ} {x : List ℕ} (put_a : record { answer = accepted a; buffer = x } ≡ deliver (mapped run_octets (title_param p.title)) (mid_of 4 (length first - 4) first)) where
+    abbrev second : List ℕ
+    second = behind 4 first x
 
-    abbrev pub second : List ℕ
-    second = put_mid 4 (length first - 4) first x
+    wrote-title : Wrote out (head_from p) first 4 (titles p) a x
+    wrote-title = wrote 4 front refl (title_param p.title) (titles p) (title_known p.title) title-room a x put_a
 
-    code-room : 4 + a + run_length (codes p) ≤ length out
-    code-room = omega (arith, titled.count, title_size p.title, codes-size p)
+    pub titled : Titled p out second (4 + a)
+    titled = record {
+      stands = record { begun = wrote-title.begun; place = wrote-title.place };
+      room = omega (arith, wrote-title.count, title_size p.title, codes-size p, subs-size p);
+    }
 
-    module _ {code : Option (List ℕ)} (code-is : code ≡ option_map four p.point_code) where
-      abbrev code_lent : List ℕ
-      code_lent = mid_of (4 + a) (length second - (4 + a)) second
-
-      code_told : accepted (given_param 0x8002 code) ≡ accepted (codes p)
-      code_told = ap (λ (c : Option (List ℕ)). accepted (given_param 0x8002 c)) code-is
-
-      pub code_never :
-          {X : Type 0} {n : ℕ} {vs y : List ℕ}
-          → record { answer = refused n vs; buffer = y } ≡ deliver (accepted (run_octets (given_param 0x8002 code))) code_lent
-          → X
-      code_never = wrote_never (4 + a) titled.begun titled.place (accepted (given_param 0x8002 code)) (codes p) code_told code-room
-
-      module _ {b : ℕ} {y : List ℕ} (put_b : record { answer = accepted b; buffer = y } ≡ deliver (accepted (run_octets (given_param 0x8002 code))) code_lent) where
-        pub coded : Wrote out (up_to_title p) second (4 + a) (codes p) b y
-        coded = wrote (4 + a) titled.begun titled.place (accepted (given_param 0x8002 code)) (codes p) code_told code-room b y put_b
-
-        abbrev pub third : List ℕ
-        third = put_mid (4 + a) (length second - (4 + a)) second y
-
-        sub-room : 4 + a + b + run_length (subs p) ≤ length out
-        sub-room = omega (arith, titled.count, coded.count, title_size p.title, codes-size p, subs-size p)
-
-        module _ {sub : Option (List ℕ)} (sub-is : sub ≡ option_map sub_value p.ssn) where
-          abbrev sub_lent : List ℕ
-          sub_lent = mid_of (4 + a + b) (length third - (4 + a + b)) third
-
-          sub_told : accepted (given_param 0x8003 sub) ≡ accepted (subs p)
-          sub_told = ap (λ (c : Option (List ℕ)). accepted (given_param 0x8003 c)) sub-is
-
-          pub sub_never :
-              {X : Type 0} {n : ℕ} {vs z : List ℕ}
-              → record { answer = refused n vs; buffer = z } ≡ deliver (accepted (run_octets (given_param 0x8003 sub))) sub_lent
-              → X
-          sub_never = wrote_never (4 + a + b) coded.begun coded.place (accepted (given_param 0x8003 sub)) (subs p) sub_told sub-room
-
-          module _ {e : ℕ} {z : List ℕ} (put_e : record { answer = accepted e; buffer = z } ≡ deliver (accepted (run_octets (given_param 0x8003 sub))) sub_lent) where
-            pub subbed : Wrote out (up_to_code p) third (4 + a + b) (subs p) e z
-            subbed = wrote (4 + a + b) coded.begun coded.place (accepted (given_param 0x8003 sub)) (subs p) sub_told sub-room e z put_e
-
-            pub value_done :
-                record { answer = accepted (4 + a + b + e); buffer = put_mid (4 + a + b) (length third - (4 + a + b)) third z }
-                ≡ deliver (write_address built_in 0 (address_from p)) out
-            value_done =
-                parts_none (head_from p) (titles p) (codes p) (subs p) [] (4 + a + b + e) refl subbed.begun
-                (value-size p ∙ omega (arith, titled.count, coded.count, subbed.count, title_size p.title, codes-size p, subs-size p))
-                ∙ ap (λ (o : Outcome (List ℕ)). deliver o out) (sym (value-known p))
+    -- The point code and the SSN behind it: all is written.
+    pub value_done :
+        {code sub : Option (List ℕ)} {b e : ℕ} {y z : List ℕ}
+        → (code ≡ option_map four p.point_code)
+        → record { answer = accepted b; buffer = y } ≡ deliver (accepted (run_octets (given_param 0x8002 code))) (mid_of (4 + a) (length second - (4 + a)) second)
+        → (sub ≡ option_map sub_value p.ssn)
+        → record { answer = accepted e; buffer = z } ≡ deliver (accepted (run_octets (given_param 0x8003 sub))) (mid_of (4 + a + b) (length (behind (4 + a) second y) - (4 + a + b)) (behind (4 + a) second y))
+        → record { answer = accepted (4 + a + b + e); buffer = behind (4 + a + b) (behind (4 + a) second y) z } ≡ deliver (write_address built_in 0 (address_from p)) out
+    value_done {b = b} {e = e} code-is put_b sub-is put_e =
+        let c = coded p.point_code p.ssn titled.stands titled.room code-is put_b in
+        let s = subbed p.point_code p.ssn titled.stands titled.room code-is put_b sub-is put_e in
+        parts_none (head_from p) (titles p) (codes p) (subs p) [] (4 + a + b + e) refl s.begun
+        (value-size p ∙ omega (arith, wrote-title.count, c.count, s.count, title_size p.title, codes-size p, subs-size p))
+        ∙ ap (λ (o : Outcome (List ℕ)). deliver o out) (sym (value-known p))

@@ -11,7 +11,7 @@ ghost use Rattle.sccp.specs.Steps.{title_from, address_from, plain_parts, conver
 ghost use Rattle.sccp.specs.Steps.{title_param, param_length, head_from, value_length};
 
 use crate::common::{Common, Digits, Title};
-use address::encode::{ssn_octets, write_four};
+use address::encode::write_four;
 use address::interpret::{Interpreted, TitleValue, interpret};
 use bcd::error::Refusal;
 use parameter::tags;
@@ -149,6 +149,6 @@ pub(crate) fn write(address: Common<'_>, out: &mut [u8]) -> Result<usize, Refusa
     let code_place = 4 + write_title(address.title, &mut out[4..])?;
     let code = address.point_code.map(u32::from).map(u32::to_be_bytes);
     let ssn_place = code_place + write_four(tags::POINT_CODE, code, &mut out[code_place..])?;
-    let ssn = ssn_octets(address.ssn);
+    let ssn = address.ssn.map(u32::from).map(u32::to_be_bytes);
     Ok(ssn_place + write_four(tags::SUBSYSTEM_NUMBER, ssn, &mut out[ssn_place..])?)
 }

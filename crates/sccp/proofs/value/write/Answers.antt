@@ -52,15 +52,15 @@ slice_bounds-write_four-start-2 c =
 pub returns-in_err-write_four : goal.returns-in_err-write_four
 returns-in_err-write_four c =
     let x = titled c.args.address c.args.out.now (omega arith) c.write_head.ensures c.in_ok-code_place.ensures in
-    sub_never c.args.address.point_code c.args.address.ssn x.stands x.room (search rules) c.in_ok-ssn_place.ensures c.ssn_octets-ssn.ensures c.in_err-write_four.ensures
+    sub_never c.args.address.point_code c.args.address.ssn x.stands x.room (search rules) c.in_ok-ssn_place.ensures (search rules) c.in_err-write_four.ensures
 
 pub overflow_add-result : goal.overflow_add-result
 overflow_add-result c =
     let x = titled c.args.address c.args.out.now (omega arith) c.write_head.ensures c.in_ok-code_place.ensures in
     let y = coded c.args.address.point_code c.args.address.ssn x.stands x.room (search rules) c.in_ok-ssn_place.ensures in
-    let z = subbed c.args.address.point_code c.args.address.ssn x.stands x.room (search rules) c.in_ok-ssn_place.ensures c.ssn_octets-ssn.ensures c.in_ok-write_four.ensures in
+    let z = subbed c.args.address.point_code c.args.address.ssn x.stands x.room (search rules) c.in_ok-ssn_place.ensures (search rules) c.in_ok-write_four.ensures in
     omega (arith, x.room, y.count, z.count)
 
 pub returns : goal.returns
 returns c =
-    value_done c.args.address c.args.out.now (omega arith) c.write_head.ensures c.in_ok-code_place.ensures (search rules) c.in_ok-ssn_place.ensures c.ssn_octets-ssn.ensures c.in_ok-write_four.ensures
+    value_done c.args.address c.args.out.now (omega arith) c.write_head.ensures c.in_ok-code_place.ensures (search rules) c.in_ok-ssn_place.ensures (search rules) c.in_ok-write_four.ensures

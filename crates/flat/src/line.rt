@@ -84,13 +84,8 @@ pub fn line(input: &[u8], out: &mut [u8; 147471]) -> usize
     let mut form = [0u8; 65536];
     let mut line = Writer { out, at: 0 };
     match settle(input, &mut form) {
-        Ok(n) => {
-            line.form(&form[..n]);
-            line.at
-        }
-        Err(refusal) => {
-            line.refused(refusal);
-            line.at
-        }
+        Ok(n) => line.form(&form[..n]),
+        Err(refusal) => line.refused(refusal),
     }
+    line.at
 }

@@ -14,8 +14,8 @@ use Rattle.flat.specs.declared.writer.Writer.{Writer}
 use Rattle.flat.specs.Account.{places_octets, marked, title_fields, param_account}
 use Rattle.message.specs.Accessors.{moved}
 
--- A writer before and after octets were stored: it holds the same slice, its position stands behind them, and where the
--- slice has places for all, they stand there.
+-- A writer before and after octets were stored: it holds the same slice, its position stands behind them, or is the largest
+-- number of 64 bits, and where the slice has places for all, they stand there.
 pub record Writes (a : Writer) (os : List ℕ) (b : Writer) : Type 0 where
   pub lent : b.out.ghost_name ≡ a.out.ghost_name
   pub same : length b.out.now ≡ length a.out.now

@@ -6,6 +6,7 @@ use lib.ListN.{length}
 use lib.Seq.{length-take-le}
 use Rattle.bcd.proofs.Outcomes.{octets-of}
 use Rattle.flat.proofs.Program.{written, line_refused, line_formed}
+use Rattle.flat.proofs.line.line.Goals.{in-Ok, in-Err}
 use Rattle.flat.proofs.line.line.Goals as goal
 
 pub slice_bounds-form-end : goal.slice_bounds-form-end
@@ -17,12 +18,11 @@ slice_bounds-form-end-in-Ok c =
     let fits : c.in-Ok.n ≤ length c.settle.new.form = omega (arith, w.fits, w.same) in
     sym (length-take-le _ _ fits)
 
-pub returns-in-Ok : goal.returns-in-Ok
-returns-in-Ok c =
-    let o = octets-of c.args.input.now (λ i. (c.type_inv.input i).fits) in
-    line_formed c.args.input.now refl (omega (arith, c)) o _ c.settle.new.form (omega (arith, c)) c.in-Ok.n c.in-Ok.ensures c.form.ensures
-
-pub returns-in-Err : goal.returns-in-Err
-returns-in-Err c =
-    let o = octets-of c.args.input.now (λ i. (c.type_inv.input i).fits) in
-    line_refused c.args.input.now refl (omega (arith, c)) o _ c.settle.new.form (omega (arith, c)) c.in-Err.refusal c.in-Err.ensures c.refused.ensures
+pub returns : goal.returns
+returns c =
+    let xs = c.args.input.now in
+    let o = octets-of xs (λ i. (c.type_inv.input i).fits) in
+    elim c.match-settle.branch [
+      | in-Ok w ↦ rw w.line-is (line_formed xs refl (omega (arith, c)) o _ c.settle.new.form (omega (arith, c)) w.in-Ok.n w.in-Ok.ensures w.form.ensures)
+      | in-Err w ↦ rw w.line-is (line_refused xs refl (omega (arith, c)) o _ c.settle.new.form (omega (arith, c)) w.in-Err.refusal w.in-Err.ensures w.refused.ensures)
+    ]

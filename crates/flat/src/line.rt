@@ -1,8 +1,8 @@
 // The line that the small program prints: a form's octets as words, or the number of a refusal.
-ghost use Rattle.std.specs.Prelude.{◌≡◌, ◌+◌, ◌*◌, ◌^◌, ◌≤◌, ◌<◌, ◌∷◌, [], ◌++◌, length};
+ghost use Rattle.std.specs.Prelude.{◌≡◌, ◌<◌};
 ghost use Rattle.bcd.specs.Outcome.{delivered, deliver};
 ghost use Rattle.bcd.specs.Answers.{outcome_of, numbered};
-ghost use Rattle.flat.specs.Line.{decimal, hex, space, words, form_text, refused_line, most_taken, settled_input, Printed};
+ghost use Rattle.flat.specs.Line.{decimal, space, words, form_text, refused_line, settled_input, Printed};
 ghost use Rattle.flat.specs.Line.{digit as Line·digit};
 ghost use Rattle.flat.specs.Steps.Emitting.{Writes};
 

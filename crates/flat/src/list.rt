@@ -2,7 +2,7 @@
 // value. The list holds records and their values, and has no bound of its own.
 ghost use Rattle.std.specs.Prelude.{◌≡◌, ◌+◌, List, ℕ, length};
 ghost use Rattle.std.specs.Iterator.{at_most};
-ghost use Rattle.bcd.specs.Outcome.{accepted, after, mapped, each, fit64, delivered, deliver};
+ghost use Rattle.bcd.specs.Outcome.{after, mapped, each, fit64, delivered, deliver};
 ghost use Rattle.bcd.specs.Answers.{outcome_of};
 ghost use Rattle.parameter.specs.Parameter.{encode_param, wire_length};
 ghost use Rattle.message.specs.Message.{message, write_message};
@@ -11,7 +11,7 @@ ghost use Rattle.parameter.specs.Items.{Left};
 ghost use Rattle.flat.specs.Steps.Entries.{entry_of, Gives, ListFits};
 
 use bcd::error::Refusal;
-use message::header::CommonHeader;
+use message::header::{CommonHeader, put_header};
 use message::types::MessageType;
 use parameter::{Place, wire_length};
 
@@ -121,15 +121,7 @@ fn encode_typed(message_type: MessageType, list: &[u8], out: &mut [u8]) -> Resul
     ensures { delivered (outcome_of result) out.new
         ≡ deliver (after (flat_list list.now) (λ ps. write_message (message message_type ps))) out.old }
 {
-    let run = list_length(list)?;
-    let total = CommonHeader::SIZE.saturating_add(run);
-    if 1048576 < total {
-        return Err(Refusal::TooManyOctets(total));
-    }
-    if out.len() < total {
-        return Err(Refusal::OutputTooSmall(total));
-    }
-    CommonHeader::new(message_type, total as u32).encode(out)?;
+    let total = put_header(message_type, list_length(list)?, out)?;
     write_list(list, &mut out[CommonHeader::SIZE..])?;
     Ok(total)
 }

@@ -19,9 +19,8 @@ use Rattle.parameter.proofs.RoundTrip.{encode_inv}
 use Rattle.parameter.proofs.Running.{sum-writable}
 use Rattle.message.specs.declared.types.MessageType.{MessageType}
 use Rattle.message.specs.declared.header.CommonHeader.{CommonHeader}
-use Rattle.message.specs.Message.{header_with, header_octets, framed, read_header, write_header, message_places, message_octets, write_message}
+use Rattle.message.specs.Message.{header_with, header_octets, framed, whole_length, headed, read_header, write_header, message_places, message_octets, write_message}
 use Rattle.message.specs.Listing.{list_message}
-use Rattle.message.specs.Steps.Parts.{whole_length, headed}
 
 -- Reading
 

@@ -1,6 +1,6 @@
 -- The common header and a message (RFC 3868, 3.1).
 use Rattle.std.specs.Prelude.{ℕ, ◌+◌, List, [], ◌∷◌, ◌++◌, length, get_or, drop, leb, eqb}
-use Rattle.bcd.specs.Outcome.{Outcome, accepted, after, demand, mapped, each, bounded}
+use Rattle.bcd.specs.Outcome.{Outcome, accepted, refused, after, demand, mapped, each, bounded, most, fit64, Delivered, delivered}
 use Rattle.parameter.specs.declared.Place.{Place}
 use Rattle.parameter.specs.Parameter.{Param, run_octets, encode_param, writable, four, four_in}
 use Rattle.parameter.specs.Walk.{places, parameters}
@@ -19,6 +19,17 @@ header_octets h = h.version ∷ 0 ∷ class_of h.message_type ∷ type_of h.mess
 -- The octets of a message's parameters behind its header, whose length counts both (RFC 3868, 3.1.4).
 abbrev pub framed : MessageType → (params : List ℕ) → List ℕ
 framed m os = header_octets (header_with m (8 + length os)) ++ os
+
+-- How many octets a header and so many octets of parameters take; 12, then 14 where there is less room.
+abbrev pub whole_length : (run room : ℕ) → Outcome ℕ
+whole_length run room =
+    demand (leb (fit64 (8 + run)) most) 12 (fit64 (8 + run) ∷ [])
+    (demand (leb (fit64 (8 + run)) room) 14 (fit64 (8 + run) ∷ []) (accepted (fit64 (8 + run))))
+
+-- The header of a message of that length in front of a buffer; a refusal leaves the buffer as it was.
+abbrev pub headed : MessageType → (total : Outcome ℕ) → List ℕ → Delivered
+headed m (accepted total) out = delivered (accepted total) (header_octets (header_with m total) ++ drop 8 out)
+headed m (refused n vs) out = delivered (refused n vs) out
 
 -- Reading a header refuses 12, 1, 2, 4 and ignores the reserved octet (document 01, 'Order' and 'Records on the wire').
 unfoldable pub read_header : List ℕ → Outcome CommonHeader

@@ -2,8 +2,7 @@
 ghost use Rattle.std.specs.Prelude.{◌≡◌, length};
 ghost use Rattle.bcd.specs.Outcome.{delivered, deliver};
 ghost use Rattle.bcd.specs.Answers.{outcome_of};
-ghost use Rattle.message.specs.Message.{header_with, read_header, write_header};
-ghost use Rattle.message.specs.Steps.Parts.{whole_length, headed};
+ghost use Rattle.message.specs.Message.{header_with, read_header, write_header, whole_length, headed};
 
 use crate::types::MessageType;
 use bcd::error::Refusal;
@@ -75,7 +74,7 @@ impl CommonHeader {
 
 // Writes the header of a message whose parameters take so many octets, if there is room for both, and tells how many octets
 // both take. 12, 14.
-pub(crate) fn put_header(
+pub fn put_header(
     message_type: MessageType,
     run: usize,
     out: &mut [u8],

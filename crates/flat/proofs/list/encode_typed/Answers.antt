@@ -27,17 +27,19 @@ returns-in_err-total c =
 pub write_list-requires : goal.write_list-requires
 write_list-requires c =
     let m = c.args.message_type in
-    let h = headed_known m _ _ c.args.out.now c.put_header-total.new.out c.in_ok-total.ensures in
+    let run = c.in_ok-list_length.field-0 in
+    let h = headed_known m run _ c.args.out.now c.put_header.new.out c.in_ok-total.ensures in
     let k = message-known m (after (flat_list c.args.list.now) (each encode_param)) _ _ c.in_ok-list_length.ensures h.size h.small in
-    let d = c.put_header-total.new.out in
+    let d = c.put_header.new.out in
     rw (k.1, length-take (length d - 8) (drop 8 d), length-drop 8 d) (omega (arith, k.3, h.room))
 
 pub returns-in_err-write_list : goal.returns-in_err-write_list
 returns-in_err-write_list c =
     let m = c.args.message_type in
     let o = after (flat_list c.args.list.now) (each encode_param) in
-    let h = headed_known m _ _ c.args.out.now c.put_header-total.new.out c.in_ok-total.ensures in
-    let same = sum-writable o _ c.in_ok-list_length.ensures (omega (arith, h.size, h.small)) in
+    let run = c.in_ok-list_length.field-0 in
+    let h = headed_known m run _ c.args.out.now c.put_header.new.out c.in_ok-total.ensures in
+    let same = sum-writable o run c.in_ok-list_length.ensures (omega (arith, h.size, h.small)) in
     absurd (rest_accepted m o _ c.in_ok-list_length.ensures _ _ _ c.in_ok-total.ensures o (sym same) c.in_err-write_list.ensures)
 
 pub returns : goal.returns
@@ -45,7 +47,8 @@ returns c =
     let m = c.args.message_type in
     let listed = flat_list c.args.list.now in
     let o = after listed (each encode_param) in
-    let h = headed_known m _ _ c.args.out.now c.put_header-total.new.out c.in_ok-total.ensures in
-    let same = sum-writable o _ c.in_ok-list_length.ensures (omega (arith, h.size, h.small)) in
+    let run = c.in_ok-list_length.field-0 in
+    let h = headed_known m run _ c.args.out.now c.put_header.new.out c.in_ok-total.ensures in
+    let same = sum-writable o run c.in_ok-list_length.ensures (omega (arith, h.size, h.small)) in
     rw (written-framed m listed)
     (message-done m o _ c.in_ok-list_length.ensures _ _ _ c.in_ok-total.ensures o (sym same) c.in_ok-write_list.ensures)

@@ -74,11 +74,7 @@ impl CommonHeader {
 
 // Writes the header of a message whose parameters take so many octets, if there is room for both, and tells how many octets
 // both take. 12, 14.
-pub fn put_header(
-    message_type: MessageType,
-    run: usize,
-    out: &mut [u8],
-) -> Result<usize, Refusal>
+pub fn put_header(message_type: MessageType, run: usize, out: &mut [u8]) -> Result<usize, Refusal>
     ensures { delivered (outcome_of result) out.new
         ≡ headed message_type (whole_length run (length out.old)) out.old }
 {

@@ -7,12 +7,12 @@ use native.Mathlib.Omega.{arith}
 use lib.ListN.{length, drop, length-append, length-take, length-drop}
 use borrow.Rule.Slice.PartMut.{mid_of, put_mid}
 use Rattle.bcd.specs.Outcome.{accepted, refused, bounded, Octets, most, Delivered, deliver}
-use Rattle.bcd.proofs.Outcomes.{mapped_inv, octets_at}
+use Rattle.bcd.proofs.Outcomes.{never, bounded-within, mapped_inv, octets_at}
 use Rattle.bcd.proofs.Writing.{Begun, untouched, extend, delivered}
 use Rattle.parameter.specs.Parameter.{Param, run_octets, run_length, most_value, encode_param, two_at}
 use Rattle.parameter.specs.Walk.{found, step_at, places, valued}
 use Rattle.parameter.specs.declared.Place.{Place}
-use Rattle.parameter.proofs.Reaching.{Reached, reached_start, walk_found, walk_more}
+use Rattle.parameter.proofs.Reaching.{Reached, reached_start, walk_refused, walk_found, walk_more}
 use Rattle.parameter.proofs.RoundTrip.{run_length_lem, run_octets-append, run_length-append}
 use Rattle.address.specs.Listing.{is_other, other_places}
 use Rattle.address.specs.Steps.Plan.{Walked, others_octets}
@@ -53,6 +53,11 @@ pub record Copying (v out d : List ℕ) (cursor at : ℕ) : Type 0 where
 pub copying_start : (v out : List ℕ) → Copying v out out 4 0
 unfolding run_octets
 copying_start v out = record { reached = reached_start v 4; begun = untouched out; place = refl }
+
+-- The walk of a value that was walked is not refused.
+pub unrefused :
+    {X : Type 0} {v : List ℕ} {s : Parts} (k : Walked v s) {at n : ℕ} {vs : List ℕ} → Reached v 4 at → refused n vs ≡ bounded v (step_at v at) → X
+unrefused {v = v} k y e = absurd (never (sym (walk_refused y _ _ e) ∙ bounded-within v (places v 4) k.within ∙ k.walked))
 
 -- The places that a walk has come to are the front of all.
 pub reached_front : {v : List ℕ} {at : ℕ} (ps : List Place) (r : Reached v 4 at) → places v 4 ≡ accepted ps → (qs : List Place) × (r.done ++ qs ≡ ps)

@@ -2,12 +2,10 @@
 use mathlib.Core.Path.{sym, ap, ◌∙◌, subst}
 use Prim.Native.Nat.{ℕ}
 use native.Mathlib.Omega.{arith}
-use Rattle.bcd.proofs.Outcomes.{never, bounded-within}
-use Rattle.parameter.specs.Walk.{places}
 use Rattle.parameter.specs.declared.Parameters.{Parameters}
-use Rattle.parameter.proofs.Reaching.{walk_refused, reached_end, walk_step}
+use Rattle.parameter.proofs.Reaching.{reached_end, walk_step}
 use Rattle.address.proofs.Held.{read-of}
-use Rattle.address.proofs.Copying.{Copying, copying_start, other_small, copying_never, copying_next, copying_few, copied}
+use Rattle.address.proofs.Copying.{Copying, unrefused, copying_start, other_small, copying_never, copying_next, copying_few, copied}
 use Rattle.address.proofs.interpret.Interpreted.write_others.Goals as goal
 
 pub loop-place-init : goal.loop-place-init
@@ -24,9 +22,7 @@ pub returns-in_err-place : goal.returns-in_err-place
 returns-in_err-place c =
     let s = rw (c.in_err-place.was) at c.in-Some.ensures.steps in
     let y = c.loop-place.invariant in
-    let k = (read-of c.args.self.now).known in
-    let none = walk_refused y.1.reached _ _ (rw y.0 at s.1) in
-    absurd (never (sym none ∙ bounded-within c.args.self.now.value.now (places c.args.self.now.value.now 4) k.within ∙ k.walked))
+    unrefused (read-of c.args.self.now).known y.1.reached (rw y.0 at s.1)
 
 pub returns : goal.returns
 returns c =

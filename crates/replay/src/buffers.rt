@@ -11,59 +11,56 @@ use message::header::CommonHeader;
 use message::point_codes::pack_affected_point_codes;
 use message::types::MessageType;
 use parameter::table::Records;
-use std::fmt;
 
-fn digits(call: &mut Call, reply: &mut Reply) -> fmt::Result {
+fn digits(call: &mut Call, reply: &mut Reply) {
     let digits = call.string();
-    reply.written(call.number(), |out| encode_gt_digits(digits, out))
+    reply.written(call.number(), |out| encode_gt_digits(digits, out));
 }
 
-fn parameter(call: &mut Call, reply: &mut Reply) -> fmt::Result {
+fn parameter(call: &mut Call, reply: &mut Reply) {
     let tag = call.number();
     let value = call.string();
-    reply.written(call.number(), |out| parameter::encode(tag, value, out))
+    reply.written(call.number(), |out| parameter::encode(tag, value, out));
 }
 
-fn title(title: GlobalTitle, call: &mut Call, reply: &mut Reply) -> fmt::Result {
-    reply.written(call.number(), |out| title.encode(out))
+fn title(title: GlobalTitle, call: &mut Call, reply: &mut Reply) {
+    reply.written(call.number(), |out| title.encode(out));
 }
 
 // An address that has no other sub-parameters.
-fn alone(address: SuaAddress, call: &mut Call, reply: &mut Reply) -> fmt::Result {
+fn alone(address: SuaAddress, call: &mut Call, reply: &mut Reply) {
     reply.written(
         call.number(),
         |out| address.encode(Records::new(&[], &[]), out),
-    )
+    );
 }
 
-fn address(call: &mut Call, reply: &mut Reply) -> fmt::Result {
+fn address(call: &mut Call, reply: &mut Reply) {
     let address = call.address();
     let room = call.number();
     let table = call.table();
-    let others = Records::new(call.string(), table.rows());
-    reply.written(room, |out| address.encode(others, out))
+    reply.written(room, |out| address.encode(table.records(), out));
 }
 
-fn rewritten(call: &mut Call, reply: &mut Reply) -> fmt::Result {
+fn rewritten(call: &mut Call, reply: &mut Reply) {
     let tag = call.number();
     let value = call.string();
-    reply.written(call.number(), |out| rewrite(tag, value, out))
+    reply.written(call.number(), |out| rewrite(tag, value, out));
 }
 
-fn settled(call: &mut Call, reply: &mut Reply) -> fmt::Result {
+fn settled(call: &mut Call, reply: &mut Reply) {
     let input = call.string();
-    reply.written(call.number(), |out| settle(input, out))
+    reply.written(call.number(), |out| settle(input, out));
 }
 
-fn parameters(call: &mut Call, reply: &mut Reply) -> fmt::Result {
+fn parameters(call: &mut Call, reply: &mut Reply) {
     let count = call.number();
     let room = call.number();
     let table = call.table();
-    let lent = Records::new(call.string(), table.rows());
-    reply.written(room, |out| lent.encode_parameters(count, out))
+    reply.written(room, |out| table.records().encode_parameters(count, out));
 }
 
-fn message(call: &mut Call, reply: &mut Reply) -> fmt::Result {
+fn message(call: &mut Call, reply: &mut Reply) {
     let Ok(message_type) = MessageType::from_class_type(call.number(), call.number()) else {
         return reply.line.word("unknown");
     };
@@ -73,11 +70,10 @@ fn message(call: &mut Call, reply: &mut Reply) -> fmt::Result {
     };
     let room = call.number();
     let table = call.table();
-    let lent = Records::new(call.string(), table.rows());
-    reply.written(room, |out| message.encode(lent, out))
+    reply.written(room, |out| message.encode(table.records(), out));
 }
 
-fn header(call: &mut Call, reply: &mut Reply) -> fmt::Result {
+fn header(call: &mut Call, reply: &mut Reply) {
     let version = call.number();
     let Ok(message_type) = MessageType::from_class_type(call.number(), call.number()) else {
         return reply.line.word("unknown");
@@ -87,26 +83,26 @@ fn header(call: &mut Call, reply: &mut Reply) -> fmt::Result {
         message_type,
         message_length: call.number(),
     };
-    reply.written(call.number(), |out| header.encode(out))
+    reply.written(call.number(), |out| header.encode(out));
 }
 
-fn point_codes(call: &mut Call, reply: &mut Reply) -> fmt::Result {
+fn point_codes(call: &mut Call, reply: &mut Reply) {
     let room = call.number();
     let codes = call.codes();
-    reply.written(room, |out| pack_affected_point_codes(codes, out))
+    reply.written(room, |out| pack_affected_point_codes(codes, out));
 }
 
 // The entries that fill a report: its four numbers.
-fn read(call: &mut Call, reply: &mut Reply) -> fmt::Result {
+fn read(call: &mut Call, reply: &mut Reply) {
     let input = call.string();
     reply.written(call.number(), |out| {
         let mut report = [0u64; 4];
         entry::sua_read(input, out, &mut report);
         report
-    })
+    });
 }
 
-fn encode(call: &mut Call, reply: &mut Reply) -> fmt::Result {
+fn encode(call: &mut Call, reply: &mut Reply) {
     let class = call.number();
     let msg_type = call.number();
     let list = call.string();
@@ -114,10 +110,10 @@ fn encode(call: &mut Call, reply: &mut Reply) -> fmt::Result {
         let mut report = [0u64; 4];
         entry::sua_encode(class, msg_type, list, out, &mut report);
         report
-    })
+    });
 }
 
-pub(crate) fn answer(call: &mut Call, reply: &mut Reply) -> fmt::Result {
+pub(crate) fn answer(call: &mut Call, reply: &mut Reply) {
     match call.name {
         "encode_gt_digits" => digits(call, reply),
         "parameter_encode" => parameter(call, reply),

@@ -1,13 +1,16 @@
 // A call: its name, and what is left of its numbers and of its octet strings, which it takes in order (docs/CALLS.md).
 ghost use Rattle.std.specs.Prelude.{◌≤◌, length};
 
+use crate::store::Store;
 use address::{GlobalTitle, RoutingIndicator, SuaAddress};
 use message::SuaMessage;
 use message::types::MessageType;
 use parameter::Place;
+use parameter::table::Records;
 use std::str;
 
-// A number of the list, taken modulo the width of what it is for; a flag is set where it is not 0.
+// A number of the list, taken modulo the width of what it is for; a flag is set where it is not 0. No trait of the library
+// takes a number so: `TryFrom` refuses what is too large.
 pub(crate) trait Number {
     fn of(n: u64) -> Self;
 }
@@ -52,16 +55,17 @@ pub(crate) struct Call<'a> {
     codes: &'a mut [u32],
 }
 
-// A table that a call is given.
+// A table that a call is given, and the octets that hold its values.
 #[derive(Clone, Copy)]
-pub(crate) struct Table {
+pub(crate) struct Table<'a> {
+    values: &'a [u8],
     rows: [Place; 64],
     count: usize,
 }
 
-impl Table {
-    pub(crate) fn rows(&self) -> &[Place] {
-        &self.rows[..self.count.min(64)]
+impl<'a> Table<'a> {
+    pub(crate) fn records(&self) -> Records<'_> {
+        Records::new(self.values, &self.rows[..self.count.min(64)])
     }
 }
 
@@ -119,8 +123,8 @@ impl<'a> Call<'a> {
         codes
     }
 
-    // Three lists, of tags, starts and lengths, of which the shortest says how many rows there are.
-    pub(crate) fn table(&mut self) -> Table {
+    // Three lists, of tags, starts and lengths, of which the shortest says how many rows there are, and an octet string.
+    pub(crate) fn table(&mut self) -> Table<'a> {
         let tags = self.list();
         let starts = self.list();
         let lengths = self.list();
@@ -138,7 +142,11 @@ impl<'a> Call<'a> {
             };
         }
         let count = tags.len().min(starts.len()).min(lengths.len());
-        Table { rows, count }
+        Table {
+            values: self.string(),
+            rows,
+            count,
+        }
     }
 
     // Digits, in front of zeros.
@@ -168,9 +176,8 @@ impl<'a> Call<'a> {
 
     // The routing indicator of a number modulo 5.
     fn routing(&mut self) -> RoutingIndicator {
-        RoutingIndicator::from_u16((next(&mut self.numbers) % 5) as u16).unwrap_or(
-            RoutingIndicator::Reserved,
-        )
+        let number = (next(&mut self.numbers) % 5) as u16;
+        RoutingIndicator::from_u16(number).unwrap_or(RoutingIndicator::Reserved)
     }
 
     pub(crate) fn address(&mut self) -> SuaAddress {
@@ -195,35 +202,6 @@ impl<'a> Call<'a> {
     }
 }
 
-// Items that are stored one behind another, as many as there is room for.
-#[derive(Drop)]
-struct Store<'a, T> {
-    room: &'a mut [T],
-    count: usize,
-}
-
-impl<'a, T: Copy> Store<'a, T> {
-    fn new(room: &'a mut [T]) -> Store<'a, T> {
-        Store { room, count: 0 }
-    }
-
-    // Stores an item so many times.
-    fn put(&mut self, item: T, times: u64) {
-        let from = self.count.min(self.room.len());
-        let left = self.room.len() - from;
-        let n = left.min(usize::try_from(times).unwrap_or(left));
-        for place in &mut self.room[from..from + n] {
-            *place = item;
-        }
-        self.count = from + n;
-    }
-
-    fn stored(self) -> &'a [T] {
-        let Store { room, count } = self;
-        room.get(..count).unwrap_or(&[])
-    }
-}
-
 fn decimal(digits: &str) -> u64 {
     digits.parse().unwrap_or(0)
 }
@@ -244,11 +222,11 @@ fn put_piece(piece: &str, octets: &mut Store<u8>) {
 
 // Stores the octets of pieces with `+` between them, and how many they are.
 fn put_string(pieces: &str, octets: &mut Store<u8>, lengths: &mut Store<usize>) {
-    let before = octets.count;
+    let before = octets.count();
     for piece in pieces.split('+') {
         put_piece(piece, octets);
     }
-    lengths.put(octets.count.saturating_sub(before), 1);
+    lengths.put(octets.count().saturating_sub(before), 1);
 }
 
 // Stores a number, or one that stands in front of a `*` and how many times.

@@ -3,12 +3,10 @@ use crate::call::Call;
 use crate::reply::Reply;
 use bcd::error::Refusal;
 use message::SuaMessage;
-use parameter::table::Records;
-use std::fmt;
 
 // CLDT and, below, CLDR. The octet strings are the digits of both addresses, their values, and data; both tables stand behind
 // both addresses.
-fn cldt(call: &mut Call, reply: &mut Reply) -> fmt::Result {
+fn cldt(call: &mut Call, reply: &mut Reply) {
     let context = call.number();
     let class = call.number();
     let control = call.number();
@@ -16,28 +14,26 @@ fn cldt(call: &mut Call, reply: &mut Reply) -> fmt::Result {
     let room = call.number();
     let source = call.address();
     let destination = call.address();
-    let source_table = call.table();
-    let destination_table = call.table();
-    let sources = Records::new(call.string(), source_table.rows());
-    let destinations = Records::new(call.string(), destination_table.rows());
+    let sources = call.table();
+    let destinations = call.table();
     let data = call.string();
     reply.written(room, |out| {
         SuaMessage::cldt(
             context,
             class,
             &source,
-            sources,
+            sources.records(),
             &destination,
-            destinations,
+            destinations.records(),
             control,
             hops,
             data,
             out,
         )
-    })
+    });
 }
 
-fn cldr(call: &mut Call, reply: &mut Reply) -> fmt::Result {
+fn cldr(call: &mut Call, reply: &mut Reply) {
     let context = call.number();
     let cause_type = call.number();
     let cause_value = call.number();
@@ -45,10 +41,8 @@ fn cldr(call: &mut Call, reply: &mut Reply) -> fmt::Result {
     let room = call.number();
     let source = call.address();
     let destination = call.address();
-    let source_table = call.table();
-    let destination_table = call.table();
-    let sources = Records::new(call.string(), source_table.rows());
-    let destinations = Records::new(call.string(), destination_table.rows());
+    let sources = call.table();
+    let destinations = call.table();
     let octets = call.string();
     reply.written(room, |out| {
         let data = if given { Some(&octets[..]) } else { None };
@@ -57,39 +51,39 @@ fn cldr(call: &mut Call, reply: &mut Reply) -> fmt::Result {
             cause_type,
             cause_value,
             &source,
-            sources,
+            sources.records(),
             &destination,
-            destinations,
+            destinations.records(),
             data,
             out,
         )
-    })
+    });
 }
 
-fn error(call: &mut Call, reply: &mut Reply) -> fmt::Result {
+fn error(call: &mut Call, reply: &mut Reply) {
     let code = call.number();
     let context = call.given();
     let info = call.given_string();
     reply.written(
         call.number(),
         |out| SuaMessage::error(code, context, info, out),
-    )
+    );
 }
 
-fn notify(call: &mut Call, reply: &mut Reply) -> fmt::Result {
+fn notify(call: &mut Call, reply: &mut Reply) {
     let status = call.number();
     let asp_id = call.given();
     let context = call.given();
     reply.written(
         call.number(),
         |out| SuaMessage::notify(status, asp_id, context, out),
-    )
+    );
 }
 
-fn asp_up(call: &mut Call, reply: &mut Reply) -> fmt::Result {
+fn asp_up(call: &mut Call, reply: &mut Reply) {
     let asp_id = call.given();
     let info = call.given_string();
-    reply.written(call.number(), |out| SuaMessage::asp_up(asp_id, info, out))
+    reply.written(call.number(), |out| SuaMessage::asp_up(asp_id, info, out));
 }
 
 // A constructor of an octet string that may be absent.
@@ -97,11 +91,11 @@ fn of_string<F: FnOnce(Option<&[u8]>, &mut [u8]) -> Result<usize, Refusal>>(
     call: &mut Call,
     reply: &mut Reply,
     construct: F,
-) -> fmt::Result
+)
     requires { F.IsAlwaysCallable construct }
 {
     let string = call.given_string();
-    reply.written(call.number(), |out| construct(string, out))
+    reply.written(call.number(), |out| construct(string, out));
 }
 
 // A constructor of a number that may be absent.
@@ -109,11 +103,11 @@ fn of_number<F: FnOnce(Option<u32>, &mut [u8]) -> Result<usize, Refusal>>(
     call: &mut Call,
     reply: &mut Reply,
     construct: F,
-) -> fmt::Result
+)
     requires { F.IsAlwaysCallable construct }
 {
     let number = call.given();
-    reply.written(call.number(), |out| construct(number, out))
+    reply.written(call.number(), |out| construct(number, out));
 }
 
 // A constructor of two numbers that may be absent.
@@ -121,12 +115,12 @@ fn of_numbers<F: FnOnce(Option<u32>, Option<u32>, &mut [u8]) -> Result<usize, Re
     call: &mut Call,
     reply: &mut Reply,
     construct: F,
-) -> fmt::Result
+)
     requires { F.IsAlwaysCallable construct }
 {
     let first = call.given();
     let second = call.given();
-    reply.written(call.number(), |out| construct(first, second, out))
+    reply.written(call.number(), |out| construct(first, second, out));
 }
 
 // A constructor of a routing context that may be absent, and point codes.
@@ -134,16 +128,16 @@ fn of_codes<F: FnOnce(Option<u32>, &[u32], &mut [u8]) -> Result<usize, Refusal>>
     call: &mut Call,
     reply: &mut Reply,
     construct: F,
-) -> fmt::Result
+)
     requires { F.IsAlwaysCallable construct }
 {
     let context = call.given();
     let room = call.number();
     let codes = call.codes();
-    reply.written(room, |out| construct(context, codes, out))
+    reply.written(room, |out| construct(context, codes, out));
 }
 
-pub(crate) fn answer(call: &mut Call, reply: &mut Reply) -> fmt::Result {
+pub(crate) fn answer(call: &mut Call, reply: &mut Reply) {
     match call.name {
         "cldt" => cldt(call, reply),
         "cldr" => cldr(call, reply),

@@ -1,18 +1,19 @@
 // A line that is printed: words with single spaces between them. A character that it has no room for is left out.
+use crate::store::Store;
 use std::fmt;
 use std::fmt::Write;
 
 #[derive(Drop)]
 pub(crate) struct Line<'a> {
-    text: &'a mut [u8],
-    at: usize,
+    text: Store<'a, u8>,
     // Whether a word stands before the next one.
     begun: bool,
 }
 
+// It never fails.
 impl<'a> fmt::Write for Line<'a> {
     fn write_str(&mut self, s: &str) -> fmt::Result {
-        self.text(s);
+        self.characters(s);
         Ok(())
     }
 }
@@ -20,28 +21,23 @@ impl<'a> fmt::Write for Line<'a> {
 impl<'a> Line<'a> {
     pub(crate) fn new(text: &'a mut [u8]) -> Line<'a> {
         Line {
-            text,
-            at: 0,
+            text: Store::new(text),
             begun: false,
         }
     }
 
     // What is printed so far.
-    pub(crate) fn shown(&self) -> &[u8] {
-        self.text.get(..self.at).unwrap_or(&[])
+    pub(crate) fn shown(self) -> &'a [u8] {
+        self.text.stored()
     }
 
     // Stores a character.
     pub(crate) fn octet(&mut self, character: u8) {
-        let at = self.at;
-        if at < self.text.len() {
-            self.text[at] = character;
-            self.at = at + 1;
-        }
+        self.text.put(character, 1);
     }
 
     // Stores characters.
-    fn text(&mut self, characters: &str) {
+    fn characters(&mut self, characters: &str) {
         for &character in characters.as_bytes() {
             self.octet(character);
         }
@@ -56,82 +52,77 @@ impl<'a> Line<'a> {
     }
 
     // Stores a word.
-    pub(crate) fn word(&mut self, word: &str) -> fmt::Result {
+    pub(crate) fn word(&mut self, word: &str) {
         self.space();
-        self.text(word);
-        Ok(())
+        self.characters(word);
     }
 
     // Stores a number as a word.
-    pub(crate) fn number(&mut self, n: u64) -> fmt::Result {
+    pub(crate) fn number(&mut self, n: u64) {
         self.space();
-        write!(self, "{n}")
+        let _ = write!(self, "{n}");
     }
 
     // Stores numbers as words.
-    pub(crate) fn numbers(&mut self, list: &[u64]) -> fmt::Result {
+    pub(crate) fn numbers(&mut self, list: &[u64]) {
         for &n in list {
-            self.number(n)?;
+            self.number(n);
         }
-        Ok(())
     }
 
     // Stores `ok` and numbers.
-    pub(crate) fn ok(&mut self, list: &[u64]) -> fmt::Result {
-        self.word("ok")?;
-        self.numbers(list)
+    pub(crate) fn ok(&mut self, list: &[u64]) {
+        self.word("ok");
+        self.numbers(list);
     }
 
     // Stores what stands between two answers; the next word begins an answer.
     pub(crate) fn next_answer(&mut self) {
-        self.text(" ; ");
+        self.characters(" ; ");
         self.begun = false;
     }
 
-    // Stores a run of equal octets, given what stands before it: nothing, a run of 8 or more, or a shorter one.
-    fn run(&mut self, octets: &[u8], before: Option<bool>) -> fmt::Result {
-        let long = 8 <= octets.len();
-        if before == Some(true) || long && before == Some(false) {
-            self.octet(b'+');
+    // Stores a run of equal octets: each, or one and how many there are.
+    fn run(&mut self, run: &[u8]) {
+        match run {
+            [octet, ..] if is_long(run) => {
+                let _ = write!(self, "{octet:02x}*{}", run.len());
+            }
+            _ => {
+                for octet in run {
+                    let _ = write!(self, "{octet:02x}");
+                }
+            }
         }
-        if long {
-            return write!(self, "{:02x}*{}", octets[0], octets.len());
-        }
-        for octet in octets {
-            write!(self, "{octet:02x}")?;
-        }
-        Ok(())
     }
 
-    // Stores octets as a word: the runs of equal ones.
-    pub(crate) fn octets(&mut self, octets: &[u8]) -> fmt::Result {
-        self.word("x")?;
-        let mut before = None;
+    // Stores octets as a word: the runs of equal ones, with a `+` beside each long one.
+    pub(crate) fn octets(&mut self, octets: &[u8]) {
+        self.word("x");
+        let mut before: Option<&[u8]> = None;
         for run in octets.chunk_by(|a, b| a == b) {
-            self.run(run, before)?;
-            before = Some(8 <= run.len());
+            if before.is_some_and(|before| is_long(before) || is_long(run)) {
+                self.octet(b'+');
+            }
+            self.run(run);
+            before = Some(run);
         }
-        Ok(())
     }
 
     // Stores numbers of items, as a word that begins with a letter.
-    pub(crate) fn column<T, F: Fn(&T) -> u64>(
-        &mut self,
-        letter: char,
-        items: &[T],
-        number: F,
-    ) -> fmt::Result
+    pub(crate) fn column<T, F: Fn(&T) -> u64>(&mut self, letter: &str, items: &[T], number: F)
         requires { F.IsAlwaysCallable number }
     {
-        self.space();
-        write!(self, "{letter}")?;
-        for (i, item) in items.iter().enumerate() {
-            if 0 < i {
-                self.octet(b',');
-            }
+        self.word(letter);
+        let mut separator = "";
+        for item in items {
             let n = number(item);
-            write!(self, "{n}")?;
+            let _ = write!(self, "{separator}{n}");
+            separator = ",";
         }
-        Ok(())
     }
+}
+
+fn is_long(run: &[u8]) -> bool {
+    8 <= run.len()
 }

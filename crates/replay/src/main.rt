@@ -8,6 +8,7 @@ mod constructors;
 mod line;
 mod numbers;
 mod reply;
+mod store;
 mod tables;
 
 use reply::Reply;
@@ -34,7 +35,7 @@ fn run(
         if !given.is_empty() {
             let mut lengths = [0; 5];
             let mut call = call::read(given, numbers, octets, &mut lengths, codes);
-            let _ = numbers::answer(&mut call, &mut reply);
+            numbers::answer(&mut call, &mut reply);
         }
         reply.line.octet(b'\n');
         io::write_all(STDOUT, reply.line.shown());

@@ -10,10 +10,9 @@ use form::settled_length;
 use message::header::CommonHeader;
 use message::types::{MessageClass, MessageType};
 use parameter::{Cursor, as_u32, wire_length};
-use std::fmt;
 
 // The parameter at a position, and the next position.
-fn step(call: &mut Call, reply: &mut Reply) -> fmt::Result {
+fn step(call: &mut Call, reply: &mut Reply) {
     let cursor = Cursor { at: call.number() };
     match cursor.step(call.string()) {
         Ok(Some((place, next))) => reply.show((place, next.at)),
@@ -26,7 +25,7 @@ fn routing_indicator(value: u16) -> Result<u16, Refusal> {
     Ok(RoutingIndicator::from_u16(value)?.value())
 }
 
-pub(crate) fn answer(call: &mut Call, reply: &mut Reply) -> fmt::Result {
+pub(crate) fn answer(call: &mut Call, reply: &mut Reply) {
     match call.name {
         "decode_gt_digits" => reply.show(decode_gt_digits(call.string(), call.number())),
         "gt_digits_length" => reply.show(gt_digits_length(call.string())),

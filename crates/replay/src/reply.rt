@@ -1,7 +1,6 @@
 // What a call is lent to write in, and the line that says what it answers and what it wrote.
 use crate::answers::Answer;
 use crate::line::Line;
-use std::fmt;
 
 #[derive(Drop)]
 pub(crate) struct Reply<'a> {
@@ -18,8 +17,8 @@ impl<'a> Reply<'a> {
     }
 
     // Shows an answer.
-    pub(crate) fn show<T: Answer + Drop>(&mut self, answer: T) -> fmt::Result {
-        answer.show(&mut self.line)
+    pub(crate) fn show<T: Answer + Drop>(&mut self, answer: T) {
+        answer.show(&mut self.line);
     }
 
     // Lends so many octets, each 0xEE, to a call that writes them, and shows its answer and then the octets.
@@ -27,13 +26,13 @@ impl<'a> Reply<'a> {
         &mut self,
         count: usize,
         write: F,
-    ) -> fmt::Result
+    )
         requires { F.IsAlwaysCallable write }
     {
         let count = count.min(self.out.len());
         let room = &mut self.out[..count];
         room.fill(0xEE);
-        write(room).show(&mut self.line)?;
-        self.line.octets(room)
+        write(room).show(&mut self.line);
+        self.line.octets(room);
     }
 }

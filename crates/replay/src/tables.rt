@@ -10,7 +10,6 @@ use message::SuaMessage;
 use message::point_codes::unpack_affected_point_codes;
 use parameter::Place;
 use parameter::table::{Records, decode_parameters};
-use std::fmt;
 
 // The rows that a call is lent: as many as the shortest of three columns, of tags, starts and lengths, has places. Each number
 // in them is 60000 before the call.
@@ -46,11 +45,11 @@ impl Lent {
 
 // The three columns.
 impl Answer for Lent {
-    fn show(&self, line: &mut Line) -> fmt::Result {
+    fn show(&self, line: &mut Line) {
         let rows = &self.rows;
-        line.column('t', &rows[..self.tags.min(64)], |row| u64::from(row.tag))?;
-        line.column('s', &rows[..self.starts.min(64)], |row| row.start as u64)?;
-        line.column('l', &rows[..self.lengths.min(64)], |row| row.length as u64)
+        line.column("t", &rows[..self.tags.min(64)], |row| u64::from(row.tag));
+        line.column("s", &rows[..self.starts.min(64)], |row| row.start as u64);
+        line.column("l", &rows[..self.lengths.min(64)], |row| row.length as u64);
     }
 }
 
@@ -59,12 +58,12 @@ fn read<T: Answer + Drop, F: FnOnce(&[u8], &mut [Place]) -> T>(
     call: &mut Call,
     reply: &mut Reply,
     decode: F,
-) -> fmt::Result
+)
     requires { F.IsAlwaysCallable decode }
 {
     let mut lent = Lent::new(call);
-    reply.show(decode(call.string(), lent.rows()))?;
-    reply.show(lent)
+    reply.show(decode(call.string(), lent.rows()));
+    reply.show(lent);
 }
 
 // A call on the records of a message.
@@ -72,13 +71,12 @@ fn accessed<T: Answer + Drop, F: FnOnce(SuaMessage, Records) -> T>(
     call: &mut Call,
     reply: &mut Reply,
     access: F,
-) -> fmt::Result
+)
     requires { F.IsAlwaysCallable access }
 {
     let message = call.message();
     let table = call.table();
-    let lent = Records::new(call.string(), table.rows());
-    reply.show(access(message, lent))
+    reply.show(access(message, table.records()));
 }
 
 // A call that reads an address of a message, with a table lent for its others.
@@ -86,85 +84,79 @@ fn address<F: FnOnce(SuaMessage, Records, &mut [Place]) -> Result<SuaAddress, Re
     call: &mut Call,
     reply: &mut Reply,
     access: F,
-) -> fmt::Result
+)
     requires { F.IsAlwaysCallable access }
 {
     let message = call.message();
     let mut others = Lent::new(call);
     let table = call.table();
-    let lent = Records::new(call.string(), table.rows());
-    reply.show(access(message, lent, others.rows()))?;
-    reply.show(others)
+    reply.show(access(message, table.records(), others.rows()));
+    reply.show(others);
 }
 
-fn find_parameter(call: &mut Call, reply: &mut Reply) -> fmt::Result {
+fn find_parameter(call: &mut Call, reply: &mut Reply) {
     let count = call.number();
     let tag = call.number();
     let table = call.table();
-    let lent = Records::new(call.string(), table.rows());
-    reply.show(lent.find_parameter(count, tag))
+    reply.show(table.records().find_parameter(count, tag));
 }
 
 // The place of the data, and the data.
-fn data(call: &mut Call, reply: &mut Reply) -> fmt::Result {
+fn data(call: &mut Call, reply: &mut Reply) {
     let message = call.message();
     let table = call.table();
-    let lent = Records::new(call.string(), table.rows());
-    reply.show(message.data(lent))?;
-    reply.line.octets(message.data_part(lent))
+    reply.show(message.data(table.records()));
+    reply.line.octets(message.data_part(table.records()));
 }
 
-fn contexts_in(call: &mut Call, reply: &mut Reply) -> fmt::Result {
+fn contexts_in(call: &mut Call, reply: &mut Reply) {
     let message = call.message();
     let table = call.table();
-    let lent = Records::new(call.string(), table.rows());
-    reply.show(message.contexts_in(lent, call.codes()))
+    reply.show(message.contexts_in(table.records(), call.codes()));
 }
 
-fn unpack(call: &mut Call, reply: &mut Reply) -> fmt::Result {
+fn unpack(call: &mut Call, reply: &mut Reply) {
     let count = call.number();
     let value = call.string();
     let codes = call.lent_codes(count);
-    reply.show(unpack_affected_point_codes(value, codes))?;
-    reply.line.column('c', codes, |&code| u64::from(code))
+    reply.show(unpack_affected_point_codes(value, codes));
+    reply.line.column("c", codes, |&code| u64::from(code));
 }
 
-fn affected_point_codes(call: &mut Call, reply: &mut Reply) -> fmt::Result {
+fn affected_point_codes(call: &mut Call, reply: &mut Reply) {
     let message = call.message();
     let count = call.number();
     let table = call.table();
-    let lent = Records::new(call.string(), table.rows());
     let codes = call.lent_codes(count);
-    reply.show(message.affected_point_codes(lent, codes))?;
-    reply.line.column('c', codes, |&code| u64::from(code))
+    reply.show(message.affected_point_codes(table.records(), codes));
+    reply.line.column("c", codes, |&code| u64::from(code));
 }
 
 // All handling fields, each answer for itself.
-fn screen(call: &mut Call, reply: &mut Reply) -> fmt::Result {
+fn screen(call: &mut Call, reply: &mut Reply) {
     let message = call.message();
     let mut sources = Lent::new(call);
     let mut destinations = Lent::new(call);
     let table = call.table();
-    let lent = Records::new(call.string(), table.rows());
-    let screen = message.screen(lent, sources.rows(), destinations.rows());
-    reply.show(screen.routing_context)?;
+    let screen = message.screen(table.records(), sources.rows(), destinations.rows());
+    reply.show(screen.routing_context);
     reply.line.next_answer();
-    reply.show(screen.protocol_class)?;
+    reply.show(screen.protocol_class);
     reply.line.next_answer();
-    reply.show(screen.sequence_control)?;
+    reply.show(screen.sequence_control);
     reply.line.next_answer();
-    reply.show(screen.ss7_hop_count)?;
+    reply.show(screen.ss7_hop_count);
     reply.line.next_answer();
-    reply.show(screen.sccp_cause)?;
+    reply.show(screen.sccp_cause);
     reply.line.next_answer();
-    reply.show(screen.source_address)?;
-    reply.show(sources)?;
+    reply.show(screen.source_address);
+    reply.show(sources);
     reply.line.next_answer();
-    reply.show(screen.destination_address)?;
-    reply.show(destinations)
+    reply.show(screen.destination_address);
+    reply.show(destinations);
 }
 
-pub(crate) fn answer(call: &mut Call, reply: &mut Reply) -> fmt::Result {
+pub(crate) fn answer(call: &mut Call, reply: &mut Reply) {
     match call.name {
         "decode_parameters" => read(call, reply, decode_parameters),
         "message_decode" => read(call, reply, SuaMessage::decode),

@@ -19,6 +19,7 @@ impl Summand for u64 {
     }
 }
 
+// Numbers by width: one impl for all that are `Into<u64>` would conflict with those for `bool`, `usize` and `Option`.
 impl Summand for u8 {
     fn add_to(&self, sum: Sum) -> Sum {
         sum.add(&u64::from(*self))

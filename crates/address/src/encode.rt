@@ -33,10 +33,7 @@ impl GlobalTitle {
 fn title_length(digits: Digits, title: &Option<GlobalTitle>) -> Result<usize, Refusal>
     ensures { outcome_of result ≡ title_by digits title.now }
 {
-    match title {
-        None => Ok(0),
-        Some(gt) => gt.wire_length(digits),
-    }
+    title.as_ref().map_or(Ok(0), |gt| gt.wire_length(digits))
 }
 
 // How many octets an address value has. 15; 11; 9, if the digits are checked; 10 for each other; 10 for the whole, with the tag

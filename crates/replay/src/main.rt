@@ -19,7 +19,8 @@ const STDIN: i32 = 0;
 
 const STDOUT: i32 = 1;
 
-// Reads standard input, and answers each of its lines, an empty one by an empty one. The buffers are arrays of `main`, so that no proof looks at their elements.
+// Reads standard input, and answers each of its lines, an empty one by an empty one, and one that is not UTF-8 as an unknown call.
+// The buffers are arrays of `main`, so that no proof looks at their elements.
 fn run(
     text: &mut [u8; 1000000],
     numbers: &mut [u64; 20000],
@@ -29,8 +30,10 @@ fn run(
     line: &mut [u8; 200000],
 ) {
     let n = io::read_full(STDIN, text);
-    let lines = str::from_utf8(&text[..n.min(1000000)]).unwrap_or("");
-    for given in lines.lines() {
+    for characters in text[..n.min(1000000)].split_inclusive(|&octet| octet == b'\n') {
+        let given = str::from_utf8(characters)
+            .unwrap_or("?")
+            .trim_end_matches('\n');
         let mut reply = Reply::new(out, line);
         if !given.is_empty() {
             let mut lengths = [0; 5];

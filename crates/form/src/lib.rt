@@ -13,7 +13,7 @@ ghost use Rattle.form.specs.Steps.Passes.{held, settled_run, sum_of, Placeable};
 
 use crate::item::Item;
 use bcd::error::Refusal;
-use message::header::CommonHeader;
+use message::header::{CommonHeader, put_header};
 use parameter::{Parameters, tags};
 
 // Whether a parameter is a source or a destination address.
@@ -81,11 +81,7 @@ pub fn settle(input: &[u8], out: &mut [u8]) -> Result<usize, Refusal>
 {
     let header = CommonHeader::decode(input)?;
     let run = measure(input)?;
-    let total = CommonHeader::SIZE + run;
-    if out.len() < total {
-        return Err(Refusal::OutputTooSmall(total));
-    }
-    CommonHeader::new(header.message_type, total as u32).encode(out)?;
+    let total = put_header(header.message_type, run, out)?;
     write_params(input, &mut out[CommonHeader::SIZE..])?;
     Ok(total)
 }

@@ -66,16 +66,16 @@ fn write_other(value: &[u8], place: Place, out: &mut [u8]) -> Result<usize, Refu
     parameter::encode(place.tag, place.value(value), out)
 }
 
-// Writes the routing indicator, and the three bits of the address indicator.
-fn write_head(value: &[u8], out: &mut [u8])
-    requires in_bounds { 4 ≤ length value.now }
-    requires in_bounds_2 { 4 ≤ length out.old }
-    ensures { out.new ≡ head_octets value.now ++ drop 4 out.old }
-{
-    out[..4].copy_from_slice(&[value[0], value[1], 0, value[3] % 8]);
-}
-
 impl<'a> Interpreted<'a> {
+    // Writes the routing indicator, and the three bits of the address indicator.
+    fn write_head(&self, out: &mut [u8])
+        requires { 4 ≤ length out.old }
+        ensures { out.new ≡ head_octets self.now.value.now ++ drop 4 out.old }
+    {
+        let value = self.value;
+        out[..4].copy_from_slice(&[value[0], value[1], 0, value[3] % 8]);
+    }
+
     // Writes the title, if there is one. 14.
     fn write_title(&self, out: &mut [u8]) -> Result<usize, Refusal>
         ensures { delivered (outcome_of result) out.new
@@ -108,7 +108,7 @@ impl<'a> Interpreted<'a> {
         ensures { delivered (outcome_of result) out.new
             ≡ deliver (after (read_address built_in self.now.value.now) (write_address with_unknown 0)) out.old }
     {
-        write_head(self.value, out);
+        self.write_head(out);
         let a = 4 + self.write_title(&mut out[4..])?;
         let b = a + write_four(tags::POINT_CODE, self.code(), &mut out[a..])?;
         let ssn = ssn_octets(self.ssn());

@@ -25,23 +25,25 @@ pub fn rewritten_length(tag: u16, value: &[u8]) -> Result<usize, Refusal>
     interpret(value)?.measure(Digits::Checked, tag)
 }
 
-// Writes a title, given by its value, as one parameter: its octets as they are, but for the reserved ones, the count of
-// the digits that are there, and an odd last high half. 14.
-fn put_title(given: TitleValue<'_>, out: &mut [u8]) -> Result<usize, Refusal>
-    ensures { delivered (outcome_of result) out.new
-        ≡ deliver (mapped run_octets (sub_param with_unknown (title (title_at built_in given.entry.octets.now)))) out.old }
-{
-    let value = given.octets;
-    let count = value[4];
-    let digits = usize::from(count).min(2 * (value.len() - 8));
-    let octets = digits.div_ceil(2);
-    let length = parameter::encode(tags::GLOBAL_TITLE, &value[..8 + octets], out)?;
-    out[4..7].fill(0);
-    out[8] = digits as u8;
-    if digits % 2 == 1 {
-        out[11 + octets] %= 16;
+impl<'a> TitleValue<'a> {
+    // Writes it as one parameter: its octets as they are, but for the reserved ones, the count of the digits that are there, and
+    // an odd last high half. 14.
+    fn put(self, out: &mut [u8]) -> Result<usize, Refusal>
+        ensures { delivered (outcome_of result) out.new
+            ≡ deliver (mapped run_octets (sub_param with_unknown (title (title_at built_in self.entry.octets.now)))) out.old }
+    {
+        let value = self.octets;
+        let count = value[4];
+        let digits = usize::from(count).min(2 * (value.len() - 8));
+        let octets = digits.div_ceil(2);
+        let length = parameter::encode(tags::GLOBAL_TITLE, &value[..8 + octets], out)?;
+        out[4..7].fill(0);
+        out[8] = digits as u8;
+        if digits % 2 == 1 {
+            out[11 + octets] %= 16;
+        }
+        Ok(length)
     }
-    Ok(length)
 }
 
 // Whether a sub-parameter is no title, point code or SSN.
@@ -85,7 +87,7 @@ impl<'a> Interpreted<'a> {
     {
         match self.title() {
             None => Ok(0),
-            Some(title) => put_title(title, out),
+            Some(title) => title.put(out),
         }
     }
 

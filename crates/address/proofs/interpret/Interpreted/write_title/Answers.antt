@@ -15,4 +15,4 @@ returns-in-None c = rw (sym (rw c.in-None.is at c.title.ensures)) (none_delivere
 pub returns-in-Some : goal.returns-in-Some
 returns-in-Some c =
     rw (sym (rw c.in-Some.is at c.title.ensures))
-    (c.put_title.ensures ∙ ap (λ (o : Outcome (List Param)). deliver (mapped run_octets o) c.args.out.now) (sym (each_one (sub_param with_unknown) (title _))))
+    (c.put.ensures ∙ ap (λ (o : Outcome (List Param)). deliver (mapped run_octets o) c.args.out.now) (sym (each_one (sub_param with_unknown) (title _))))

@@ -8,11 +8,13 @@ use mathlib.Core.List.{List, []}
 use borrow.Author.Tests.{le-leb, leb-true, eq-eqb}
 use Rattle.bcd.specs.Outcome.{accepted, refused, mapped, Octets}
 use Rattle.bcd.specs.Digits.{built_in, write_digits, KnownDigits}
+use Rattle.bcd.proofs.Outcomes.{never}
 use Rattle.bcd.proofs.Digits.{read-written}
 use Rattle.address.specs.Address.{Title, Address, read_address}
 use Rattle.sccp.specs.Sccp.{absent_or, routes, title_converts, converts, title_octets, sccp_octets, to_sccp}
 use Rattle.sccp.specs.Facts.{TitleConverts, Where, Converts, Exactly}
 use Rattle.sccp.proofs.Known.{digits-known}
+use Rattle.sccp.proofs.Invalid.{refuses_as}
 use Rattle.sccp.proofs.Parts.{code_small, title_converts_lem, HeldIn}
 use Rattle.sccp.proofs.Parties.{passes, passed, routes_inv, party_octets, written_inv}
 use Rattle.sccp.proofs.Back.{address_carried, to_read}
@@ -94,3 +96,16 @@ converts_exactly v a o e = record { where_held = where_held; held = held; elsewh
     go : (b : Bool) → converts a ≡ b → (Converts a → ⊥) → to_sccp v ≡ refused 17 []
     go true c n = absurd (n ((converts_tells a).0 c))
     go false c n = to_read v a e ∙ unconverted a c
+
+-- Once the address was read, nothing but 17 is refused.
+pub sua_refused :
+    (v : List ℕ) (a : Address) (n : ℕ) (vs : List ℕ)
+    → Octets v
+    → read_address built_in v ≡ accepted a
+    → to_sccp v ≡ refused n vs
+    → (n ≡ 17) × (vs ≡ [])
+sua_refused v a n vs o e d = go (converts a) refl
+  where
+    go : (b : Bool) → converts a ≡ b → (n ≡ 17) × (vs ≡ [])
+    go true c = let (xs, w) = (converts_exactly v a o e).where_held ((converts_tells a).0 c) in absurd (never (sym d ∙ w))
+    go false c = refuses_as {A = List ℕ} 17 n vs (sym (to_read v a e ∙ unconverted a c) ∙ d)

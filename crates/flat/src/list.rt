@@ -5,7 +5,6 @@ ghost use Rattle.std.specs.Iterator.{at_most};
 ghost use Rattle.bcd.specs.Outcome.{after, mapped, each, fit64, delivered, deliver};
 ghost use Rattle.bcd.specs.Answers.{outcome_of};
 ghost use Rattle.parameter.specs.Parameter.{encode_param, wire_length};
-ghost use Rattle.message.specs.Message.{message, write_message};
 ghost use Rattle.flat.specs.Flat.{flat_step, flat_list, encode_flat};
 ghost use Rattle.parameter.specs.Items.{Left};
 ghost use Rattle.flat.specs.Steps.Entries.{entry_of, Gives, ListFits};
@@ -116,22 +115,13 @@ fn write_list(list: &[u8], out: &mut [u8]) -> Result<usize, Refusal>
     Ok(at)
 }
 
-// Writes the message of a type and a flat list. 15, 10 in order, 12, 14.
-fn encode_typed(message_type: MessageType, list: &[u8], out: &mut [u8]) -> Result<usize, Refusal>
-    ensures { delivered (outcome_of result) out.new
-        ≡ deliver (after (flat_list list.now) (λ ps. write_message (message message_type ps))) out.old }
-{
-    let total = put_header(message_type, list_length(list)?, out)?;
-    write_list(list, &mut out[CommonHeader::SIZE..])?;
-    Ok(total)
-}
-
 // Writes the message of a class, a type and a flat list. 4, 15, 10 in order, 12 (the message's), 14.
-#[tactic(auto, unfolding(bcd::specs::Outcome::deliver, crate::specs::Flat::encode_flat))]
 pub fn encode(class: u8, msg_type: u8, list: &[u8], out: &mut [u8]) -> Result<usize, Refusal>
     ensures { delivered (outcome_of result) out.new
         ≡ deliver (encode_flat class msg_type list.now) out.old }
 {
     let message_type = MessageType::from_class_type(class, msg_type)?;
-    encode_typed(message_type, list, out)
+    let total = put_header(message_type, list_length(list)?, out)?;
+    write_list(list, &mut out[CommonHeader::SIZE..])?;
+    Ok(total)
 }

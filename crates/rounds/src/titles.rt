@@ -65,17 +65,17 @@ pub(crate) fn rounds(work: Work, count: u32, n: usize, octets: &mut [u8; 8192]) 
     let mut title = GlobalTitle::e164(digits, n - 1);
     let mut address = SuaAddress::with_gt(title, Some(8));
     let sum = match work {
-        Work::Alone => summed(count, out, |octet, out| {
+        Work::Alone => summed(count, out, move |octet, out| {
             if let Some(first) = behind.first_mut() {
                 *first = octet;
             }
             encode_gt_digits(given, out)
         }),
-        Work::Title => summed(count, out, |octet, out| {
+        Work::Title => summed(count, out, move |octet, out| {
             title.translation_type = octet;
             title.encode(out)
         }),
-        Work::Address => summed(count, out, |octet, out| {
+        Work::Address => summed(count, out, move |octet, out| {
             address.ssn = Some(octet);
             address.encode(Records::new(b"", &[]), out)
         }),

@@ -50,7 +50,7 @@ fn length_by(
     if others.outside(address.other_count) {
         return Err(Refusal::OutsideSlice);
     }
-    let front = 4 + four_length(address.point_code.is_some()) + four_length(address.ssn.is_some());
+    let front = 4 + four_length(&address.point_code) + four_length(&address.ssn);
     let length = front
         .saturating_add(title_length(digits, &address.global_title)?)
         .saturating_add(others.parameters_length(address.other_count)?);

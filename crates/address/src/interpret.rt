@@ -1,12 +1,13 @@
 // An address value interpreted by one walk: the parts that are written, and how many octets they are.
 ghost use Rattle.std.specs.Prelude.{◌≡◌, ◌≤◌, ℕ, ◌<◌, length, get_or, option_map, Ok};
-ghost use Rattle.bcd.specs.Outcome.{accepted, pick, mapped, each, most};
+ghost use Rattle.bcd.specs.Outcome.{accepted, mapped, each, most};
 ghost use Rattle.bcd.specs.Answers.{numbered, outcome_of};
 ghost use Rattle.bcd.specs.Digits.{built_in, write_digits};
 ghost use Rattle.parameter.specs.Parameter.{four, run_length};
 ghost use Rattle.address.specs.Address.{title_at, title, present, sub_param};
 ghost use Rattle.address.specs.Parts.{interpreted};
 ghost use Rattle.address.specs.Steps.Kept.{short_numbers, kept_title, kept_code, kept_sub};
+ghost use Rattle.address.specs.Steps.GivenParts.{four_length};
 ghost use Rattle.address.specs.Steps.Plan.{digits_by, PlanOf};
 
 use crate::RoutingIndicator;
@@ -122,8 +123,8 @@ impl<'a> Interpreted<'a> {
     {
         let length = 4
             + self.title_length(digits)?
-            + four_length(self.parts.code.is_some())
-            + four_length(self.parts.ssn.is_some())
+            + four_length(&self.parts.code)
+            + four_length(&self.parts.ssn)
             + self.parts.other_length;
         if 65531 < length {
             return Err(Refusal::ValueTooLong { tag, length });
@@ -133,11 +134,11 @@ impl<'a> Interpreted<'a> {
 }
 
 // What a point code or an SSN takes on the wire, if it is there.
-pub(crate) fn four_length(there: bool) -> usize
-    ensures value { result ≡ pick there 8 0 }
+pub(crate) fn four_length<T>(part: &Option<T>) -> usize
+    ensures value { result ≡ four_length part.now }
     ensures small { result ≤ 8 }
 {
-    if there { 8 } else { 0 }
+    if part.is_some() { 8 } else { 0 }
 }
 
 // Interprets an address value. 12, 1, 8, 5 or 6 of the walk, then each sub-parameter's 1 or 6.

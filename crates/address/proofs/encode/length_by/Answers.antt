@@ -5,13 +5,12 @@ use mathlib.Core.Bool.{Bool, false}
 use mathlib.Core.List.{List, [], map}
 use native.Mathlib.Omega.{arith}
 use lib.ListN.{take}
-use Rattle.std.specs.Prelude.{Option, is_some}
 use Rattle.bcd.specs.Outcome.{accepted, refused, pick}
 use Rattle.bcd.proofs.Results.{exit}
 use Rattle.parameter.specs.Walk.{valued}
 use Rattle.parameter.specs.Table.{Table, records}
 use Rattle.parameter.proofs.Records.{told_outside}
-use Rattle.address.specs.Steps.GivenParts.{four_length, title_by}
+use Rattle.address.specs.Steps.GivenParts.{title_by}
 use Rattle.address.proofs.Encoding.{with_outside, with_untitled, with_refused, with_long, with_counted}
 use Rattle.address.proofs.encode.length_by.Goals as goal
 
@@ -22,9 +21,6 @@ inside :
     → r ≡ false
     → records values rows count ≡ accepted (map (valued values) (take count rows))
 inside values rows count e f = e ∙ ap (λ (r : Bool). pick r (refused 15 []) (accepted (map (valued values) (take count rows)))) f
-
-four_taken : {X : Type 0} (o : Option X) {n : ℕ} {there : Bool} → n ≡ pick there 8 0 → there ≡ is_some o → n ≡ four_length o
-four_taken o e f = e ∙ ap (λ (b : Bool). pick b 8 0) f
 
 pub returns-then-outside : goal.returns-then-outside
 returns-then-outside c =
@@ -45,15 +41,15 @@ returns-in_err-parameters_length c =
 pub returns-then-length-gt65531 : goal.returns-then-length-gt65531
 returns-then-length-gt65531 c =
     let a = c.args.address.now in
-    let code = four_taken a.point_code c.four_length.ensures.value c.is_some.ensures in
-    let ssn = four_taken a.ssn c.four_length-2.ensures.value c.is_some-2.ensures in
+    let code = c.four_length.ensures.value in
+    let ssn = c.four_length-2.ensures.value in
     sym (with_long c.args.tag _ a c.args.others.values.now c.args.others.rows.now _ (inside _ _ _ c.outside.ensures c.if-outside.false) _ (sym c.in_ok-title_length.ensures) _ _ c.in_ok-parameters_length.ensures
     (omega (arith, c.saturating_add-length.ensures, c.saturating_add.ensures, code, ssn)) c.if-length-gt65531.true)
 
 pub returns : goal.returns
 returns c =
     let a = c.args.address.now in
-    let code = four_taken a.point_code c.four_length.ensures.value c.is_some.ensures in
-    let ssn = four_taken a.ssn c.four_length-2.ensures.value c.is_some-2.ensures in
+    let code = c.four_length.ensures.value in
+    let ssn = c.four_length-2.ensures.value in
     sym (with_counted c.args.tag _ a c.args.others.values.now c.args.others.rows.now _ (inside _ _ _ c.outside.ensures c.if-outside.false) _ (sym c.in_ok-title_length.ensures) _ _ c.in_ok-parameters_length.ensures
     (omega (arith, c.saturating_add-length.ensures, c.saturating_add.ensures, code, ssn)) c.if-length-gt65531.false)

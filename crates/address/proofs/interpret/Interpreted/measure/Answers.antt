@@ -38,10 +38,10 @@ pub returns-then-length-gt65531 : goal.returns-then-length-gt65531
 returns-then-length-gt65531 c =
     let l = title_few (digits_by c.args.digits) (alike c.args.digits).lawful _ _ c.in_ok-length.ensures in
     plan_long (alike c.args.digits) (read-of c.args.self.now) c.in_ok-length.field-0 _ c.in_ok-length.ensures
-    (rw (c.four_length.ensures.value, c.four_length-2.ensures.value, c.is_some.ensures, c.is_some-2.ensures)) c.args.tag c.if-length-gt65531.true
+    (rw (c.four_length.ensures.value, c.four_length-2.ensures.value)) c.args.tag c.if-length-gt65531.true
     (omega (arith, c.four_length.ensures.small, c.four_length-2.ensures.small, others_small (read-of c.args.self.now).known))
 
 pub returns : goal.returns
 returns c =
     plan_made (alike c.args.digits) (read-of c.args.self.now) c.in_ok-length.field-0 _ c.in_ok-length.ensures
-    (rw (c.four_length.ensures.value, c.four_length-2.ensures.value, c.is_some.ensures, c.is_some-2.ensures)) c.if-length-gt65531.false
+    (rw (c.four_length.ensures.value, c.four_length-2.ensures.value)) c.if-length-gt65531.false

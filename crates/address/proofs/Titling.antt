@@ -70,7 +70,7 @@ eight (a ∷ b ∷ c ∷ d ∷ e ∷ f ∷ []) h = absurd (omega arith)
 eight (a ∷ b ∷ c ∷ d ∷ e ∷ f ∷ g ∷ []) h = absurd (omega arith)
 
 -- What a title is written as: one sub-parameter, with the octets of the half octets that were read.
-module _ (t : TitleValue) (n : ℕ) (count : n ≡ min (get_or t.octets.now 4 0) (2 * (length t.octets.now - 8))) where
+module _ (t : TitleValue) (n : ℕ) (count : n ≡ length (title_at built_in t.octets.now).digits) where
   abbrev w : List ℕ
   w = t.octets.now
 
@@ -81,10 +81,10 @@ module _ (t : TitleValue) (n : ℕ) (count : n ≡ min (get_or t.octets.now 4 0)
   ds = drop 8 w
 
   there : n ≡ min (get_or w 4 0) (2 * length ds)
-  there = rw (length-drop 8 w) count
+  there = count ∙ digits-length built_in ds (get_or w 4 0)
 
   few_digits : n ≤ 255
-  few_digits = omega (arith, octets_at w 4 octets)
+  few_digits = omega (arith, octets_at w 4 octets, there)
 
   packed_lem : write_digits with_unknown (digits_in built_in ds (get_or w 4 0)) ≡ accepted (pack (take n (halves ds)))
   packed_lem =
@@ -95,8 +95,7 @@ module _ (t : TitleValue) (n : ℕ) (count : n ≡ min (get_or t.octets.now 4 0)
       ≡ accepted (titled 0 0 0 (get_or w 3 0) n (get_or w 5 0) (get_or w 6 0) (get_or w 7 0) (pack (take n (halves ds))) ∷ [])
   unfolding sub_param write_title
   title_param_lem =
-      let l : length (digits_in built_in ds (get_or w 4 0)) ≡ n = digits-length built_in ds (get_or w 4 0) ∙ sym there in
-      rw (packed_lem, l)
+      rw (packed_lem, ← count)
 
   octets_count : length (pack (take n (halves ds))) ≡ (n + 1) / 2
   octets_count = halves-packed ds n (omega (arith, there))
@@ -121,7 +120,7 @@ module _ (t : TitleValue) (n : ℕ) (count : n ≡ min (get_or t.octets.now 4 0)
   packed = pack (take n (halves ds))
 
   size : length lent.value ≡ 8 + (n + 1) / 2
-  size = length-take-le (8 + (n + 1) / 2) w (omega (arith, count, t.long))
+  size = length-take-le (8 + (n + 1) / 2) w (omega (arith, there, length-drop 8 w, t.long))
 
   sizes : length (param_octets lent) ≡ padded_length (8 + (n + 1) / 2)
   sizes = octets-length lent ∙ ap padded_length size

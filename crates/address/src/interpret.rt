@@ -51,6 +51,14 @@ pub struct TitleValue<'a> {
 }
 
 impl<'a> TitleValue<'a> {
+    // How many digits it has: as many as its count says, or as there are.
+    pub fn digit_count(self) -> usize
+        ensures value { result ≡ length (title_at built_in self.entry.octets.now).digits }
+        ensures few { result ≤ 255 }
+    {
+        usize::from(self.octets[4]).min(2 * (self.octets.len() - 8))
+    }
+
     // How many octets its digits are written as. 9, if they are checked.
     fn digits_length(self, digits: Digits) -> Result<usize, Refusal>
         ensures { outcome_of result
@@ -59,10 +67,7 @@ impl<'a> TitleValue<'a> {
         let octets = self.octets;
         match digits {
             Digits::Checked => bcd::rewrite::rewritten_digits_length(&octets[8..], octets[4]),
-            Digits::Unchecked => {
-                let there = usize::from(octets[4]).min(2 * (octets.len() - 8));
-                Ok(there.div_ceil(2))
-            }
+            Digits::Unchecked => Ok(self.digit_count().div_ceil(2)),
         }
     }
 }

@@ -32,11 +32,9 @@ impl<'a> TitleValue<'a> {
         ensures { delivered (outcome_of result) out.new
             ≡ deliver (mapped run_octets (sub_param with_unknown (title (title_at built_in self.entry.octets.now)))) out.old }
     {
-        let value = self.octets;
-        let count = value[4];
-        let digits = usize::from(count).min(2 * (value.len() - 8));
+        let digits = self.digit_count();
         let octets = digits.div_ceil(2);
-        let length = parameter::encode(tags::GLOBAL_TITLE, &value[..8 + octets], out)?;
+        let length = parameter::encode(tags::GLOBAL_TITLE, &self.octets[..8 + octets], out)?;
         out[4..7].fill(0);
         out[8] = digits as u8;
         if digits % 2 == 1 {

@@ -1,10 +1,10 @@
 -- The fields of an address in the account, part by part.
-use Prim.Native.Nat.{ℕ, ◌+◌, ◌-◌, ◌*◌, ◌/◌, ◌%◌, ◌^◌, ◌<◌, min}
+use Prim.Native.Nat.{ℕ, ◌+◌, ◌*◌, ◌/◌, ◌%◌, ◌^◌, ◌<◌, min}
 use mathlib.Core.Path.{◌≡◌, sym, ap, ◌∙◌, subst}
 use mathlib.Core.List.{List, [], ◌∷◌, ◌++◌, map, map-append}
 use native.Mathlib.Omega.{arith}
 use native.Mathlib.Numerals.{add-one}
-use lib.ListN.{length, get_or, take, drop, length-drop}
+use lib.ListN.{length, get_or, take, drop}
 use lib.Seq.{take-suc}
 use Rattle.bcd.specs.Outcome.{Octets}
 use Rattle.bcd.specs.Digits.{halves, built_in, digits_in}
@@ -46,20 +46,17 @@ digits_next {a} {b} {c} xs i octet h o x y =
     subst (λ (os : List ℕ). Writes a os c) more (writes_more x y)
 
 -- a title's fields, from the count and the digits that were stored
-module _ (v : List ℕ) (n : ℕ) (count : n ≡ min (get_or v 4 0) (2 * (length v - 8))) where
-  number : n ≡ length (digits_in built_in (drop 8 v) (get_or v 4 0))
-  number = omega (arith, digits-length built_in (drop 8 v) (get_or v 4 0), length-drop 8 v)
-
+module _ (v : List ℕ) (n : ℕ) (count : n ≡ length (title_at built_in v).digits) where
   pub title_stored :
       {a b : Writer}
       → Writes a (1 ∷ get_or v 3 0 ∷ get_or v 5 0 ∷ get_or v 6 0 ∷ get_or v 7 0 ∷ n ∷ digits_in built_in (drop 8 v) n) b
       → Writes a (1 ∷ title_fields (title_at built_in v)) b
   title_stored {a} {b} x =
-      let there : n ≡ min (get_or v 4 0) (2 * length (drop 8 v)) = rw (length-drop 8 v) count in
+      let there : n ≡ min (get_or v 4 0) (2 * length (drop 8 v)) = count ∙ digits-length built_in (drop 8 v) (get_or v 4 0) in
       let digits = ap (digits_in built_in (drop 8 v)) there ∙ digits-most built_in (drop 8 v) (get_or v 4 0) in
       subst (λ (os : List ℕ). Writes a os b)
       (ap (λ (l : List ℕ). 1 ∷ get_or v 3 0 ∷ get_or v 5 0 ∷ get_or v 6 0 ∷ get_or v 7 0 ∷ n ∷ l) digits
-      ∙ ap (λ (k : ℕ). 1 ∷ get_or v 3 0 ∷ get_or v 5 0 ∷ get_or v 6 0 ∷ get_or v 7 0 ∷ k ∷ digits_in built_in (drop 8 v) (get_or v 4 0)) number) x
+      ∙ ap (λ (k : ℕ). 1 ∷ get_or v 3 0 ∷ get_or v 5 0 ∷ get_or v 6 0 ∷ get_or v 7 0 ∷ k ∷ digits_in built_in (drop 8 v) (get_or v 4 0)) count) x
 
 -- the octets of a point code are the value's first four
 pub four_again : (w : List ℕ) → Octets w → get_or w 0 0 ∷ get_or w 1 0 ∷ get_or w 2 0 ∷ get_or w 3 0 ∷ [] ≡ four (four_in w)

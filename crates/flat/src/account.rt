@@ -38,7 +38,7 @@ impl<'a> Writer<'a> {
             return self.put(&[0]);
         };
         let octets = title.octets;
-        let n = usize::from(octets[4]).min(2 * (octets.len() - 8));
+        let n = title.digit_count();
         self.put(&[1, octets[3], octets[5], octets[6], octets[7], n as u8]);
         for i in 0..n {
             self.put(&[bcd::digit_in(&octets[8..], i)]);

@@ -16,5 +16,5 @@ returns-in-Checked c =
 pub returns-in-Unchecked : goal.returns-in-Unchecked
 returns-in-Unchecked c =
     let v = c.args.self.octets.now in
-    let half : c.div_ceil.result ≡ (c.min-there.result + 1) / 2 = omega (arith, c.div_ceil.ensures) in
-    rw (c.in-Unchecked.is, half) (digits_count c.args.self c.min-there.result (omega (arith, c.min-there.ensures, c.from.ensures)))
+    let half : c.div_ceil.result ≡ (c.digit_count.result + 1) / 2 = omega (arith, c.div_ceil.ensures) in
+    rw (c.in-Unchecked.is, half) (digits_count c.args.self c.digit_count.result c.digit_count.ensures.value)

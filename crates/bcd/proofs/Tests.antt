@@ -1,13 +1,13 @@
 -- What tests say: two that pass, one of every element of a list, one of a number among others, and one that a choice goes by.
-use Prim.Native.Nat.{ℕ, suc, ◌≤◌, ◌<◌}
+use Prim.Native.Nat.{ℕ, suc, ◌+◌, ◌≤◌, ◌<◌}
 use mathlib.Core.Path.{◌≡◌, refl, sym}
 use mathlib.Core.Bool.{Bool, true, false, ◌&&◌, ◌||◌, cond}
-use Rattle.std.proofs.lemmas.List.Folds.{list_any_at}
+use Rattle.std.proofs.lemmas.List.Folds.{list_any-append, list_any_at, list_any_more}
 use mathlib.Core.Logic.{◌↔◌, ◌⊎◌, inl, inr}
-use mathlib.Core.List.{List, [], ◌∷◌}
+use mathlib.Core.List.{List, [], ◌∷◌, ◌++◌}
 use native.Mathlib.Omega.{arith}
 use lib.Dec.{leb, ltb, eqb}
-use lib.ListN.{length, get_or}
+use lib.ListN.{length, get_or, take}
 use borrow.Author.Tests.{eq-eqb, eqb-true, eqb-false, lt-ltb, ltb-true, le-leb, leb-true}
 use Rattle.bcd.specs.Outcome.{Outcome, accepted, pick, All, every, among}
 use Rattle.bcd.proofs.Below.{both}
@@ -43,6 +43,13 @@ every_iff h (x ∷ xs) = and_iff (h x) (every_iff h xs)
 pub every-same : {A : Type 0} {f g : A → Bool} → ((x : A) → f x ≡ g x) → (xs : List A) → every f xs ≡ every g xs
 every-same h [] = refl
 every-same h (x ∷ xs) = rw (h x, every-same h xs)
+
+-- A number among two lists joined, and among the first i numbers and one more.
+pub among-append : (n : ℕ) (ms ks : List ℕ) → among n (ms ++ ks) ≡ (among n ms || among n ks)
+among-append n = list_any-append (λ m. eqb m n)
+
+pub among_next : (n : ℕ) (ms : List ℕ) (i : ℕ) → i < length ms → among n (take (i + 1) ms) ≡ (among n (take i ms) || eqb (get_or ms i 0) n)
+among_next n ms i h = list_any_more (λ m. eqb m n) ms i 0 h
 
 -- A number is among others exactly where it stands at a place of them.
 among-to : (n : ℕ) (ms : List ℕ) → among n ms ≡ true → (k : ℕ) × (k < length ms) × (get_or ms k 0 ≡ n)

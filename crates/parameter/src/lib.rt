@@ -18,7 +18,7 @@ ghost use Rattle.parameter.specs.Items.{Gives, Left};
 use bcd::error::Refusal;
 
 // A parameter's tag, and where its value starts and how long it is in the octets given.
-#[derive(Clone, Copy, Debug, PartialEq, Eq)]
+#[derive(Clone, Copy, Debug, Default, PartialEq, Eq)]
 pub struct Place {
     pub tag: u16,
     pub start: usize,
@@ -36,7 +36,7 @@ impl Place {
     }
 
     // Whether the value lies inside so many octets.
-    fn ends_within(self, length: usize) -> bool
+    pub fn ends_within(self, length: usize) -> bool
         ensures { result ≡ leb (self.start + self.length) length }
     {
         self.start <= length && self.length <= length - self.start

@@ -17,7 +17,7 @@ use Rattle.address.specs.Address.{Title, Address, address_with, bit, routing_in,
 use Rattle.address.specs.Records.{routing_value, address_of, title_of}
 use Rattle.address.specs.Titles.{record_of}
 use Rattle.address.specs.Listing.{other_places, routing_named, address_record}
-use Rattle.address.specs.Steps.Kept.{kept_title, kept_code, kept_sub}
+use Rattle.address.specs.Parts.{kept_title, kept_code, kept_sub}
 use Rattle.address.specs.Steps.Plan.{HeldIn, Read}
 use Rattle.address.specs.declared.GlobalTitle.{GlobalTitle}
 use Rattle.address.specs.declared.RoutingIndicator.{RoutingIndicator}

@@ -13,7 +13,8 @@ use Rattle.parameter.specs.Parameter.{Param, two_at, run_octets, run_length}
 use Rattle.parameter.specs.Walk.{valued}
 use Rattle.parameter.proofs.RoundTrip.{run_length_lem, run_octets-append, run_length-append}
 use Rattle.address.specs.Address.{title, present, sub_param, read_address, write_address}
-use Rattle.address.specs.Steps.Kept.{kept_title, kept_code, kept_sub, kept_pieces}
+use Rattle.address.specs.Parts.{kept_title, kept_code, kept_sub}
+use Rattle.address.specs.Steps.Kept.{kept_pieces}
 use Rattle.address.specs.Again.{with_unknown}
 use Rattle.address.specs.Listing.{other_places}
 use Rattle.address.specs.Steps.Plan.{head_octets, wire_of, digits_by, Plan, others_octets}

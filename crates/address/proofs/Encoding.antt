@@ -18,7 +18,8 @@ use Rattle.parameter.proofs.RoundTrip.{run_length_lem, run_length-append, encode
 use Rattle.address.specs.Address.{indicator, pieces, sized, write_address}
 use Rattle.address.specs.Records.{title_of, address_of}
 use Rattle.address.specs.Given.{encode_address_as}
-use Rattle.address.specs.Steps.GivenParts.{given_title, given_param, given_head, four_length, within, length_with}
+use Rattle.address.specs.Given.{given_param}
+use Rattle.address.specs.Steps.GivenParts.{given_title, given_head, four_length, within, length_with}
 use Rattle.address.specs.declared.SuaAddress.{SuaAddress}
 use Rattle.address.proofs.Planning.{mapped_refused, param_of, code_param, sub_one, four-length, parts-written, parts_refused}
 use Rattle.address.proofs.Putting.{delivered_never}

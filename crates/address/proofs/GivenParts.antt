@@ -22,7 +22,8 @@ use Rattle.parameter.proofs.InPlace.{framed-there}
 use Rattle.address.specs.Address.{Title, write_title, title, present, sub_param}
 use Rattle.address.specs.Records.{title_of, title_given, part_given}
 use Rattle.address.specs.Lengths.{title_length}
-use Rattle.address.specs.Steps.GivenParts.{given_title, given_param, title_room, title_by, Roomed}
+use Rattle.address.specs.Given.{given_param}
+use Rattle.address.specs.Steps.GivenParts.{given_title, title_room, title_by, Roomed}
 use Rattle.address.specs.declared.GlobalTitle.{GlobalTitle}
 use Rattle.address.specs.declared.interpret.Digits.{Digits}
 use Rattle.address.specs.declared.interpret.Digits.TheVariants as D

@@ -17,7 +17,8 @@ use Rattle.parameter.specs.declared.Place.{Place}
 use Rattle.parameter.proofs.Structure.{places-parameters}
 use Rattle.address.specs.Address.{Address, address_with, address_in, read_address}
 use Rattle.address.specs.Parts.{nothing, note_all, interpreted}
-use Rattle.address.specs.Steps.Kept.{judged, short_refusal, kept_title}
+use Rattle.address.specs.Parts.{kept_title}
+use Rattle.address.specs.Steps.Kept.{judged, short_refusal}
 use Rattle.address.specs.Steps.Plan.{Walked, Read}
 use Rattle.address.specs.declared.parts.Parts.{Parts}
 use Rattle.address.proofs.Keeping.{piece_at}

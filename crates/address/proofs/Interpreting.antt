@@ -18,7 +18,8 @@ use Rattle.parameter.proofs.Walking.{places_inside}
 use Rattle.parameter.proofs.Structure.{places-parameters}
 use Rattle.address.specs.Address.{title_at, as_title, as_code, as_sub, last, others_in, routing_in, address_with, address_in, read_address, pieces}
 use Rattle.address.specs.Parts.{nothing, noted_title, noted_code, noted_ssn, noted_other, noted, note_all}
-use Rattle.address.specs.Steps.Kept.{judged, kept_title, kept_code, kept_sub, kept_pieces}
+use Rattle.address.specs.Parts.{kept_title, kept_code, kept_sub}
+use Rattle.address.specs.Steps.Kept.{judged, kept_pieces}
 use Rattle.address.specs.Listing.{other_places}
 use Rattle.address.specs.declared.parts.Parts.{Parts}
 use Rattle.parameter.proofs.Records.{value-length}

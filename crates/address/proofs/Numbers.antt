@@ -9,7 +9,8 @@ use borrow.Rule.Slice.PartMut.{mid_of, put_mid}
 use Rattle.bcd.specs.Outcome.{Outcome, accepted, refused, deliver}
 use Rattle.bcd.proofs.Writing.{Begun}
 use Rattle.parameter.specs.Parameter.{Param, four, run_octets, run_length}
-use Rattle.address.specs.Steps.GivenParts.{sub_value, given_param}
+use Rattle.address.specs.Given.{given_param}
+use Rattle.address.specs.Steps.GivenParts.{sub_value}
 use Rattle.address.proofs.Planning.{param_of, code_param, sub_one}
 use Rattle.address.proofs.Encoding.{given_one}
 use Rattle.address.proofs.Delivering.{Wrote, wrote, wrote_never}

@@ -24,7 +24,8 @@ use Rattle.parameter.proofs.RoundTrip.{run_length-append}
 use Rattle.parameter.proofs.Reading.{parameters-room}
 use Rattle.address.specs.Address.{Title, Piece, title_octets, write_title, title, code, sub, other, present, sub_param}
 use Rattle.address.specs.Parts.{nothing, noted, note_all, sooner}
-use Rattle.address.specs.Steps.Kept.{kept_title, kept_code, kept_sub, kept_pieces}
+use Rattle.address.specs.Parts.{kept_title, kept_code, kept_sub}
+use Rattle.address.specs.Steps.Kept.{kept_pieces}
 use Rattle.address.specs.Listing.{other_places}
 use Rattle.address.specs.Steps.Plan.{HeldIn, Walked}
 use Rattle.address.specs.declared.parts.Parts.{Parts}

@@ -16,7 +16,8 @@ use Rattle.bcd.proofs.Outcomes.{le_or_lt, mapped_inv, bounded-within}
 use Rattle.parameter.specs.Parameter.{Param, two, run_octets, run_length, most_value, two_at}
 use Rattle.parameter.proofs.RoundTrip.{run_length_lem, run_length-append}
 use Rattle.address.specs.Address.{Address, Piece, title, present, address_with, address_in, read_address, indicator, pieces, sub_param, sized, write_address}
-use Rattle.address.specs.Steps.Kept.{kept_title, kept_pieces}
+use Rattle.address.specs.Parts.{kept_title}
+use Rattle.address.specs.Steps.Kept.{kept_pieces}
 use Rattle.address.specs.Steps.Plan.{Read, wire_of, Plan, PlanOf}
 use Rattle.address.specs.declared.parts.Parts.{Parts}
 use Rattle.address.proofs.Keeping.{piece_at}

@@ -23,7 +23,7 @@ use Rattle.address.specs.Titles.{record_of}
 use Rattle.address.specs.Listing.{is_other, other_places, address_places, address_record, Listed, listed, list_address}
 use Rattle.address.specs.Given.{encode_address_as, encode_address}
 use Rattle.address.specs.Parts.{nothing, note_all}
-use Rattle.address.specs.Steps.Kept.{kept_title}
+use Rattle.address.specs.Parts.{kept_title}
 use Rattle.address.specs.Steps.Plan.{Read}
 use Rattle.address.specs.declared.SuaAddress.{SuaAddress}
 use Rattle.address.specs.declared.parts.Parts.{Parts}

@@ -1,7 +1,8 @@
 -- Writing an address that is given by its record.
-use Rattle.std.specs.Prelude.{ℕ, List}
+use Rattle.std.specs.Prelude.{ℕ, List, [], ◌∷◌, Option, None, Some}
 use Rattle.bcd.specs.Outcome.{Outcome, after}
 use Rattle.bcd.specs.Digits.{built_in}
+use Rattle.parameter.specs.Parameter.{Param, param}
 use Rattle.parameter.specs.Table.{Table, records}
 use Rattle.address.specs.Address.{write_address}
 use Rattle.address.specs.Records.{address_given}
@@ -17,3 +18,8 @@ encode_address_as tag a values t =
 -- An address written alone has tag 0 (document 01, 'Refused because of the input').
 abbrev pub encode_address : SuaAddress → (values : List ℕ) → Table → Outcome (List ℕ)
 encode_address = encode_address_as 0
+
+-- A sub-parameter of a tag and a value, if it is there.
+abbrev pub given_param : (tag : ℕ) → Option (List ℕ) → List Param
+given_param tag None = []
+given_param tag (Some v) = param tag v ∷ []

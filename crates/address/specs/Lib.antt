@@ -1,5 +1,5 @@
--- The definitions, in the order to read them. `Steps` holds what contracts of private functions and of
--- `Interpreted` cite.
+-- The definitions, in the order to read them. `Steps` holds what contracts of private functions
+-- cite.
 pub mod Address
 pub mod Records
 pub mod Titles

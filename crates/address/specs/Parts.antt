@@ -1,12 +1,12 @@
 -- What `interpret` gives of an address value: the places that one walk over its sub-parameters keeps.
-use Rattle.std.specs.Prelude.{ℕ, ◌+◌, List, [], ◌∷◌, ltb, eqb}
-use Rattle.std.specs.Prelude.{Option, None, Some}
+use Rattle.std.specs.Prelude.{ℕ, ◌+◌, List, [], ◌∷◌, ltb, eqb, get_or}
+use Rattle.std.specs.Prelude.{Option, None, Some, option_map}
 use Rattle.bcd.specs.Outcome.{Outcome, pick, after, mapped}
-use Rattle.bcd.specs.Digits.{built_in}
-use Rattle.parameter.specs.Parameter.{padded_length}
-use Rattle.parameter.specs.Walk.{places}
+use Rattle.bcd.specs.Digits.{Alphabet, built_in}
+use Rattle.parameter.specs.Parameter.{padded_length, four_in}
+use Rattle.parameter.specs.Walk.{places, valued}
 use Rattle.parameter.specs.declared.Place.{Place}
-use Rattle.address.specs.Address.{read_address}
+use Rattle.address.specs.Address.{Title, title_at, read_address}
 use Rattle.address.specs.declared.parts.Parts.{Parts}
 
 -- The one that came first, or this one if it has too few octets.
@@ -52,3 +52,13 @@ note_all s (p ∷ ps) = note_all (noted s p) ps
 -- What the walk keeps of an address value that is read; the refusals of its reading.
 unfoldable pub interpreted : List ℕ → Outcome Parts
 interpreted v = after (read_address built_in v) (λ a. mapped (note_all nothing) (places v 4))
+
+-- What is kept, as the parts of the address: a title, a point code, an SSN (RFC 3868, 3.10.2.3 to 3.10.2.5).
+abbrev pub kept_title : Alphabet → List ℕ → Option Place → Option Title
+kept_title A v = option_map (λ p. title_at A (valued v p).value)
+
+abbrev pub kept_code : List ℕ → Option Place → Option ℕ
+kept_code v = option_map (λ p. four_in (valued v p).value)
+
+abbrev pub kept_sub : List ℕ → Option Place → Option ℕ
+kept_sub v = option_map (λ p. get_or (valued v p).value 3 0)

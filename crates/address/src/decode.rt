@@ -7,7 +7,7 @@ ghost use Rattle.parameter.specs.Table.{tabulated, tabulate};
 ghost use Rattle.address.specs.Address.{read_address};
 ghost use Rattle.address.specs.Titles.{record_of};
 ghost use Rattle.address.specs.Listing.{other_places, address_places, address_record, listed, list_address};
-ghost use Rattle.address.specs.Steps.Kept.{kept_title};
+ghost use Rattle.address.specs.Parts.{kept_title};
 
 use crate::interpret::{Interpreted, interpret};
 use crate::rewrite::is_other;

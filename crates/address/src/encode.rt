@@ -4,7 +4,8 @@ ghost use Rattle.bcd.specs.Outcome.{accepted, mapped, delivered, deliver};
 ghost use Rattle.bcd.specs.Answers.{outcome_of};
 ghost use Rattle.parameter.specs.Parameter.{four, run_octets, run_length};
 ghost use Rattle.address.specs.Given.{encode_address_as, encode_address};
-ghost use Rattle.address.specs.Steps.GivenParts.{given_title, sub_value, given_param, given_head, title_room, title_by, Roomed, length_with, room_for};
+ghost use Rattle.address.specs.Given.{given_param};
+ghost use Rattle.address.specs.Steps.GivenParts.{given_title, sub_value, given_head, title_room, title_by, Roomed, length_with, room_for};
 
 use crate::interpret::{Digits, four_length};
 use crate::{GlobalTitle, SuaAddress};

@@ -6,7 +6,8 @@ ghost use Rattle.bcd.specs.Digits.{built_in, write_digits};
 ghost use Rattle.parameter.specs.Parameter.{four, run_length};
 ghost use Rattle.address.specs.Address.{title_at, title, present, sub_param};
 ghost use Rattle.address.specs.Parts.{interpreted};
-ghost use Rattle.address.specs.Steps.Kept.{short_numbers, kept_title, kept_code, kept_sub};
+ghost use Rattle.address.specs.Parts.{kept_title, kept_code, kept_sub};
+ghost use Rattle.address.specs.Steps.Kept.{short_numbers};
 ghost use Rattle.address.specs.Steps.GivenParts.{four_length};
 ghost use Rattle.address.specs.Steps.Plan.{digits_by, PlanOf};
 

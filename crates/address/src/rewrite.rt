@@ -7,7 +7,7 @@ ghost use Rattle.bcd.specs.Digits.{built_in};
 ghost use Rattle.parameter.specs.Parameter.{run_octets, most_value};
 ghost use Rattle.parameter.specs.Walk.{valued};
 ghost use Rattle.address.specs.Address.{title_at, title, present, sub_param, read_address, write_address};
-ghost use Rattle.address.specs.Steps.Kept.{kept_title};
+ghost use Rattle.address.specs.Parts.{kept_title};
 ghost use Rattle.address.specs.Again.{with_unknown};
 ghost use Rattle.address.specs.Listing.{is_other, other_places};
 ghost use Rattle.address.specs.Steps.Plan.{digits_by, Plan, head_octets, others_octets};

@@ -15,7 +15,7 @@ use Rattle.parameter.specs.Parameter.{two, four, two_at}
 use Rattle.parameter.specs.Walk.{valued, places}
 use Rattle.parameter.proofs.Walking.{places_few}
 use Rattle.address.specs.Address.{Title, title_at, address_in, read_address, address_with}
-use Rattle.address.specs.Steps.Kept.{kept_title, kept_code, kept_sub}
+use Rattle.address.specs.Parts.{kept_title, kept_code, kept_sub}
 use Rattle.address.specs.Listing.{other_places}
 use Rattle.address.specs.Steps.Plan.{Read, places_in}
 use Rattle.address.specs.Parts.{interpreted}

@@ -19,7 +19,7 @@ use Rattle.parameter.specs.Walk.{valued}
 use Rattle.address.specs.Address as Sua
 use Rattle.address.specs.Address.{Address, address_with, bit, read_address}
 use Rattle.address.specs.Listing.{other_places}
-use Rattle.address.specs.Steps.Kept.{kept_title, kept_code, kept_sub}
+use Rattle.address.specs.Parts.{kept_title, kept_code, kept_sub}
 use Rattle.address.specs.Steps.Plan.{Read}
 use Rattle.address.specs.declared.parts.Parts.{Parts}
 use Rattle.address.proofs.Interpreting.{title_holds, code_holds, sub_holds, others_hold}

@@ -21,7 +21,8 @@ use Rattle.parameter.proofs.Encoding.{frame_known}
 use Rattle.parameter.proofs.InPlace.{framed-there}
 use Rattle.address.specs.Address as Sua
 use Rattle.address.specs.Address.{sub_param, write_title, write_address, pieces, sized}
-use Rattle.address.specs.Steps.GivenParts.{sub_value, given_param}
+use Rattle.address.specs.Given.{given_param}
+use Rattle.address.specs.Steps.GivenParts.{sub_value}
 use Rattle.address.proofs.Planning.{each_one, param_of, code_param, sub_one, map-some, four-length, parts-written}
 use Rattle.address.proofs.Delivering.{Wrote, wrote, wrote_never, parts-length, parts_none}
 use Rattle.address.proofs.Numbers

@@ -5,7 +5,7 @@ ghost use Rattle.bcd.specs.Answers.{outcome_of};
 ghost use Rattle.bcd.specs.Digits.{built_in};
 ghost use Rattle.parameter.specs.Parameter.{run_octets};
 ghost use Rattle.address.specs.Address.{title_at, read_address, write_address};
-ghost use Rattle.address.specs.Steps.Kept.{kept_title, kept_code};
+ghost use Rattle.address.specs.Parts.{kept_title, kept_code};
 ghost use Rattle.sccp.specs.Sccp.{absent_or, title_converts, converts};
 ghost use Rattle.sccp.specs.Steps.{title_from, address_from, plain_parts, convertible};
 ghost use Rattle.sccp.specs.Steps.{title_param, param_length, head_from, value_length};

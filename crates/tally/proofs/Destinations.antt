@@ -7,7 +7,7 @@ use Rattle.bcd.specs.Outcome.{accepted, refused, mapped}
 use Rattle.bcd.specs.Digits.{built_in}
 use Rattle.address.specs.Address.{Title, Address, read_address}
 use Rattle.address.specs.Parts.{interpreted}
-use Rattle.address.specs.Steps.Kept.{kept_title}
+use Rattle.address.specs.Parts.{kept_title}
 use Rattle.address.specs.declared.interpret.Interpreted.{Interpreted}
 use Rattle.address.proofs.Held.{read-of}
 use Rattle.address.proofs.Interpreted.{address, read_whole, interpreted_refused, title_kept}

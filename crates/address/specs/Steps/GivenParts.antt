@@ -3,7 +3,7 @@ use Rattle.std.specs.Prelude.{List, [], ◌∷◌, ◌++◌, ℕ, ◌+◌, ◌�
 use Rattle.std.specs.Prelude.{Option, None, Some, is_some}
 use Rattle.bcd.specs.Outcome.{Outcome, accepted, pick, after, demand, mapped, each, fit64}
 use Rattle.bcd.specs.Digits.{built_in}
-use Rattle.parameter.specs.Parameter.{Param, param, two, padded_length, run_length, most_value, encode_param}
+use Rattle.parameter.specs.Parameter.{Param, two, padded_length, run_length, most_value, encode_param}
 use Rattle.parameter.specs.Table.{Table, records}
 use Rattle.address.specs.Address.{title, indicator, sub_param}
 use Rattle.address.specs.Records.{routing_value, title_of, title_given, address_of}
@@ -21,11 +21,6 @@ given_title (Some g) = after (title_given g) (λ t. sub_param built_in (title t)
 -- The value of an SSN's sub-parameter (RFC 3868, 3.10.2.5).
 abbrev pub sub_value : ℕ → List ℕ
 sub_value n = 0 ∷ 0 ∷ 0 ∷ n ∷ []
-
--- A sub-parameter of a tag and a value, if it is there.
-abbrev pub given_param : (tag : ℕ) → Option (List ℕ) → List Param
-given_param tag None = []
-given_param tag (Some v) = param tag v ∷ []
 
 -- The octets in front of the sub-parameters: routing indicator, address indicator.
 abbrev pub given_head : SuaAddress → List ℕ

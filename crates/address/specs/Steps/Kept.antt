@@ -1,13 +1,13 @@
 -- What is kept of an address value, as the parts of the address; and the refusal of a sub-parameter that is too short.
-use Rattle.std.specs.Prelude.{ℕ, Bool, true, false, List, [], ◌∷◌, ◌++◌, map, eqb, get_or}
-use Rattle.std.specs.Prelude.{Option, None, Some, option_map}
+use Rattle.std.specs.Prelude.{ℕ, Bool, true, false, List, [], ◌∷◌, ◌++◌, map, eqb}
+use Rattle.std.specs.Prelude.{Option, None, Some}
 use Rattle.bcd.specs.Outcome.{Outcome, refused}
 use Rattle.bcd.specs.Digits.{Alphabet}
-use Rattle.parameter.specs.Parameter.{four_in}
 use Rattle.parameter.specs.Walk.{valued}
 use Rattle.parameter.specs.declared.Place.{Place}
-use Rattle.address.specs.Address.{Title, title_at, Piece, title, code, sub, other, present}
+use Rattle.address.specs.Address.{Piece, title, code, sub, other, present}
 use Rattle.address.specs.Listing.{other_places}
+use Rattle.address.specs.Parts.{kept_title, kept_code, kept_sub}
 use Rattle.address.specs.declared.parts.Parts.{Parts}
 
 -- The refusal of a sub-parameter that is too short for its tag.
@@ -24,16 +24,6 @@ short_refusal p = refused (short_numbers p).0 (short_numbers p).1
 abbrev pub judged : {X : Type 0} → Option Place → Outcome X → Outcome X
 judged None o = o
 judged (Some p) o = short_refusal p
-
--- What is kept, as the parts of the address.
-abbrev pub kept_title : Alphabet → List ℕ → Option Place → Option Title
-kept_title A v = option_map (λ p. title_at A (valued v p).value)
-
-abbrev pub kept_code : List ℕ → Option Place → Option ℕ
-kept_code v = option_map (λ p. four_in (valued v p).value)
-
-abbrev pub kept_sub : List ℕ → Option Place → Option ℕ
-kept_sub v = option_map (λ p. get_or (valued v p).value 3 0)
 
 -- The pieces that are written, in their order.
 unfoldable pub kept_pieces : Alphabet → List ℕ → Parts → List Place → List Piece

@@ -7,7 +7,7 @@ use Rattle.parameter.specs.Parameter.{two, four, two_at}
 use Rattle.parameter.specs.Walk.{places}
 use Rattle.parameter.specs.Table.{over}
 use Rattle.address.specs.declared.parts.Parts.{Parts}
-use Rattle.address.specs.Steps.Kept.{kept_title, kept_code, kept_sub}
+use Rattle.address.specs.Parts.{kept_title, kept_code, kept_sub}
 use Rattle.address.specs.Listing.{other_places}
 use Rattle.address.specs.Steps.Plan.{places_in}
 use Rattle.flat.specs.declared.writer.Writer.{Writer}

@@ -11,7 +11,8 @@ use Rattle.bcd.proofs.Results.{exit}
 use Rattle.bcd.proofs.Writing.{Begun}
 use Rattle.parameter.specs.Parameter.{four, run_octets, run_length}
 use Rattle.parameter.specs.Table.{Table}
-use Rattle.address.specs.Steps.GivenParts.{given_title, sub_value, given_param, given_head, room_for}
+use Rattle.address.specs.Given.{given_param}
+use Rattle.address.specs.Steps.GivenParts.{given_title, sub_value, given_head, room_for}
 use Rattle.address.specs.declared.SuaAddress.{SuaAddress}
 use Rattle.address.proofs.Delivering.{Wrote, parts_octets}
 use Rattle.address.proofs.Numbers.{behind, Stands, code_never, coded, sub_never, subbed}

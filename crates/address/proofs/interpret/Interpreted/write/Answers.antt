@@ -12,9 +12,10 @@ use Rattle.bcd.proofs.Writing.{Begun, begin}
 use Rattle.parameter.specs.Parameter.{Param, four, run_octets, run_length}
 use Rattle.address.specs.Address.{title, present, sub_param}
 use Rattle.address.specs.Again.{with_unknown}
-use Rattle.address.specs.Steps.Kept.{kept_title, kept_code, kept_sub}
+use Rattle.address.specs.Parts.{kept_title, kept_code, kept_sub}
 use Rattle.address.specs.Steps.Plan.{Plan, head_octets, others_octets}
-use Rattle.address.specs.Steps.GivenParts.{sub_value, given_param}
+use Rattle.address.specs.Given.{given_param}
+use Rattle.address.specs.Steps.GivenParts.{sub_value}
 use Rattle.address.specs.declared.parts.Parts.{Parts}
 use Rattle.address.proofs.Putting.{delivered_inv, delivered_never}
 use Rattle.address.proofs.Delivering.{wrote, wrote_never, parts_octets, codes, subs, others, planned-pieces, others_room, planned-length, planned-done, planned_none}

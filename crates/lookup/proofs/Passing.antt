@@ -1,5 +1,5 @@
 -- One pass over the records: what it keeps for a tag is the first record with it.
-use Prim.Native.Nat.{ℕ, suc, ◌+◌, ◌≤◌, ◌<◌}
+use Prim.Native.Nat.{ℕ, suc, ◌≤◌, ◌<◌}
 use mathlib.Core.Path.{◌≡◌, refl, sym, ap, ap₂, ◌∙◌}
 use mathlib.Core.Bool.{Bool, true, false, ◌&&◌, and_assoc, and-false}
 use Rattle.std.specs.Prelude.{Option, None, Some, option_map}
@@ -7,7 +7,7 @@ use mathlib.Core.List.{List, [], ◌∷◌, ◌++◌, map, append_assoc, append-
 use lib.Dec.{eqb}
 use native.Mathlib.Omega.{arith}
 use lib.ListN.{length, set, take}
-use borrow.Author.Tests.{eqb-true, le-leb, lt-leb}
+use borrow.Author.Tests.{eqb-true}
 use Rattle.bcd.specs.Outcome.{Outcome, accepted, refused, mapped, pick, every}
 use Rattle.bcd.proofs.Outcomes.{never, mapped_inv}
 use Rattle.parameter.specs.declared.Place.{Place}
@@ -77,19 +77,19 @@ module _ {values : List ℕ} {rows left : List Place} (next : List Place) {first
   still_whole : next ++ (p ∷ passed.done) ≡ rows
   still_whole = sym (append_assoc next (p ∷ []) passed.done) ∙ ap (λ l. l ++ passed.done) (sym more) ∙ passed.whole
 
-  pub pass_next : (place : Option ℕ) → place ≡ place_among wanted p.tag → p.start + p.length ≤ length values → Passed values rows next (kept place p first)
+  pub pass_next : (place : Option ℕ) → place ≡ place_among wanted p.tag → true ≡ inside values p → Passed values rows next (kept place p first)
   pass_next place e h = record {
     done = p ∷ passed.done;
     whole = still_whole;
-    inside = rw (le-leb _ _ h) passed.inside;
+    inside = rw (← h) passed.inside;
     kept = ap₂ (λ o f. kept o p f) e passed.kept ∙ sym (kept_more p passed.done wanted wanted_different);
   }
 
-  pub pass_outside : length values < p.start + p.length → every (inside values) rows ≡ false
+  pub pass_outside : false ≡ inside values p → every (inside values) rows ≡ false
   pass_outside h =
       ap (every (inside values)) (sym still_whole)
       ∙ every_joined (inside values) next (p ∷ passed.done)
-      ∙ rw (lt-leb _ _ h) (and-false (every (inside values) next))
+      ∙ rw (← h) (and-false (every (inside values) next))
 
 -- What the pass answers, of the first so many rows of a table: 15, or what it kept of all of them.
 module _ (w : List ℕ) (values : List ℕ) (t : Table) (count : ℕ) where

@@ -44,7 +44,7 @@ pub(crate) fn first_of(lent: Records<'_>, count: usize) -> Result<[Option<Place>
     };
     let mut first = [None; 7];
     for &row in rows.iter().rev() {
-        if n < row.start || n - row.start < row.length {
+        if !row.ends_within(n) {
             return Err(Refusal::OutsideSlice);
         }
         if let Some(place) = place_of(row.tag) {

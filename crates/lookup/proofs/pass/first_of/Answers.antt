@@ -1,5 +1,5 @@
 -- The pass stops at a record that reaches outside; what it has kept at the end is of all records.
-use Rattle.std.proofs.Common.{◌≡◌, ◌-◌, ◌<◌, ◌+◌, ◌∙◌, sym, ap, length, take, ℕ, List, None, Some, arith}
+use Rattle.std.proofs.Common.{◌≡◌, ◌-◌, ◌∙◌, sym, ap, take, ℕ, List, None, Some, arith}
 use Rattle.std.specs.Iterator.Adapters.{rev_source}
 use Rattle.std.specs.Slice.Iter.{iter_rest}
 use Rattle.bcd.specs.Outcome.{accepted, every}
@@ -8,7 +8,6 @@ use Rattle.parameter.proofs.Records.{inside}
 use Rattle.lookup.specs.Steps.Pass.{wanted}
 use Rattle.lookup.proofs.Passing.{firsts, pass_start, pass_next, pass_outside, pass_all, answer_few, answer_outside, answer_all}
 use Rattle.lookup.proofs.pass.first_of.Goals as goal
-use Rattle.lookup.proofs.pass.first_of.Goals.{then-n-row-via-then-n-row, then-n-row-via-else-n-row+then-n-row-2}
 
 -- what the iterator begins with
 lent :
@@ -31,26 +30,21 @@ loop-row-init c = pass_start c.args.lent.values.now (iter_rest (rev_source c.int
 pub loop-row-preserved-in-Some-place_of : goal.loop-row-preserved-in-Some-place_of
 loop-row-preserved-in-Some-place_of c =
     pass_next _ c.loop-row.invariant c.in-Some-2.field-0.now c.in-Some-2.ensures.steps
-    (Some c.in-Some-place_of.place) c.in-Some-place_of.ensures (omega (arith, c.if-n-row.false, c.if-n-row-2.false))
+    (Some c.in-Some-place_of.place) c.in-Some-place_of.ensures (sym c.if-not-ends_within.false ∙ c.ends_within.ensures)
 
 pub loop-row-preserved : goal.loop-row-preserved
 loop-row-preserved c =
     pass_next _ c.loop-row.invariant c.in-Some-2.field-0.now c.in-Some-2.ensures.steps
-    None c.in_default-place_of.ensures (omega (arith, c.if-n-row.false, c.if-n-row-2.false))
+    None c.in_default-place_of.ensures (sym c.if-not-ends_within.false ∙ c.ends_within.ensures)
 
-pub returns-then-n-row : goal.returns-then-n-row
-returns-then-n-row c =
+pub returns-then-not-ends_within : goal.returns-then-not-ends_within
+returns-then-not-ends_within c =
     let values = c.args.lent.values.now in
     let t = c.args.lent.rows.now in
-    let p = c.in-Some-2.field-0.now in
-    let far : length values < p.start + p.length = elim c.then-n-row.branch [
-      | then-n-row-via-then-n-row w ↦ omega (arith, w.if-n-row.true)
-      | then-n-row-via-else-n-row+then-n-row-2 w ↦ omega (arith, w.if-n-row.false, w.if-n-row-2.true)
-    ] in
     let ((low, few, range, long), any) = c.in-Some.ensures.lookup in
     let whole = lent rev_source iter_rest t c.args.count c.into_iter-row-iterator.ensures.into_iter_gives c.rev-row-items.ensures.source c.iter.ensures.rest range in
     answer_outside wanted values t c.args.count few
-    (ap (every (inside values)) (sym whole) ∙ pass_outside _ c.loop-row.invariant p c.in-Some-2.ensures.steps far)
+    (ap (every (inside values)) (sym whole) ∙ pass_outside _ c.loop-row.invariant c.in-Some-2.field-0.now c.in-Some-2.ensures.steps (sym c.if-not-ends_within.true ∙ c.ends_within.ensures))
 
 pub returns : goal.returns
 returns c =

@@ -11,7 +11,7 @@ ghost use Rattle.address.specs.Parts.{kept_title};
 
 use crate::interpret::{Interpreted, interpret};
 use crate::rewrite::is_other;
-use crate::{GlobalTitle, RoutingIndicator, SuaAddress};
+use crate::{GlobalTitle, SuaAddress};
 use bcd::error::Refusal;
 use parameter::{Parameters, Place};
 
@@ -31,14 +31,12 @@ impl<'a> Interpreted<'a> {
     fn record(&self) -> Result<SuaAddress, Refusal>
         ensures { outcome_of result ≡ mapped address_record (read_address built_in self.now.value.now) }
     {
-        let value = self.value;
-        let routing = u16::from_be_bytes([value[0], value[1]]);
-        let bits = value[3];
+        let bits = self.value[3];
         let include_gt = bits / 4 % 2 == 1;
         let include_pc = bits / 2 % 2 == 1;
         let include_ssn = bits % 2 == 1;
         Ok(SuaAddress {
-            routing_indicator: RoutingIndicator::from_u16(routing)?,
+            routing_indicator: self.routing,
             include_gt,
             include_pc,
             include_ssn,

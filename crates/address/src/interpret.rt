@@ -3,8 +3,9 @@ ghost use Rattle.std.specs.Prelude.{◌≡◌, ◌≤◌, ℕ, ◌<◌, length, 
 ghost use Rattle.bcd.specs.Outcome.{accepted, mapped, each, most};
 ghost use Rattle.bcd.specs.Answers.{numbered, outcome_of};
 ghost use Rattle.bcd.specs.Digits.{built_in, write_digits};
-ghost use Rattle.parameter.specs.Parameter.{four, run_length};
-ghost use Rattle.address.specs.Address.{title_at, title, present, sub_param};
+ghost use Rattle.parameter.specs.Parameter.{four, two_at, run_length};
+ghost use Rattle.address.specs.Address.{routing_in, title_at, title, present, sub_param};
+ghost use Rattle.address.specs.Records.{routing_value};
 ghost use Rattle.address.specs.Parts.{interpreted};
 ghost use Rattle.address.specs.Parts.{kept_title, kept_code, kept_sub};
 ghost use Rattle.address.specs.Steps.Kept.{short_numbers};
@@ -73,14 +74,16 @@ impl<'a> TitleValue<'a> {
     }
 }
 
-// An address value that reads without refusal, with its parts: the last of each kind, and how many others.
+// An address value that reads without refusal, with its routing indicator and its parts: the last of each kind, and how many others.
 #[derive(Clone, Copy)]
 pub struct Interpreted<'a> {
     pub value: &'a [u8],
+    pub routing: RoutingIndicator,
     pub parts: Parts,
     ghost long: { 4 ≤ length value.now },
     ghost within: { length value.now ≤ most },
     ghost fits: { (i : ℕ) → get_or value.now i 0 < 256 },
+    ghost routed: { accepted (routing_value routing) ≡ routing_in (two_at value.now 0) },
     ghost read: { accepted parts ≡ interpreted value.now },
 }
 
@@ -162,10 +165,14 @@ pub fn interpret(value: &[u8]) -> Result<Interpreted<'_>, Refusal>
             actual: n,
         });
     }
-    RoutingIndicator::from_u16(u16::from_be_bytes([value[0], value[1]]))?;
+    let routing = RoutingIndicator::from_u16(u16::from_be_bytes([value[0], value[1]]))?;
     let parts = survey(value)?;
     if let Some(short) = parts.short {
         return Err(too_short(short));
     }
-    Ok(Interpreted { value, parts })
+    Ok(Interpreted {
+        value,
+        routing,
+        parts,
+    })
 }

@@ -49,20 +49,20 @@ returns-then-n-gt1048576-clause-parts c = let v = c.args.value.now in refused_in
 pub returns-then-n-lt4-clause-parts : goal.returns-then-n-lt4-clause-parts
 returns-then-n-lt4-clause-parts c = let v = c.args.value.now in refused_interpreted v _ _ (read_few built_in v c.if-n-gt1048576.false c.if-n-lt4.true)
 
-pub returns-in_err-from_u16-clause-parts : goal.returns-in_err-from_u16-clause-parts
+pub returns-in_err-routing-clause-parts : goal.returns-in_err-routing-clause-parts
 unfolding two_at
-returns-in_err-from_u16-clause-parts c =
+returns-in_err-routing-clause-parts c =
     let v = c.args.value.now in
     let routing : c.from_be_bytes.result ≡ two_at v 0 = omega (arith, c.from_be_bytes.ensures) in
     ap (mapped (λ (i : Interpreted). i.parts)) (exit c.from_residual.result _ c.from_residual.ensures.1)
-    ∙ refused_interpreted v _ _ (read_unrouted built_in v c.if-n-gt1048576.false c.if-n-lt4.false _ _ (c.in_err-from_u16.ensures ∙ ap routing_in routing))
+    ∙ refused_interpreted v _ _ (read_unrouted built_in v c.if-n-gt1048576.false c.if-n-lt4.false _ _ (c.in_err-routing.ensures ∙ ap routing_in routing))
 
 pub returns-in_err-parts-clause-parts : goal.returns-in_err-parts-clause-parts
 unfolding two_at
 returns-in_err-parts-clause-parts c =
     let v = c.args.value.now in
     let routing : c.from_be_bytes.result ≡ two_at v 0 = omega (arith, c.from_be_bytes.ensures) in
-    let small = routed (two_at v 0) (c.in_ok-from_u16.ensures ∙ ap routing_in routing) in
+    let small = routed (two_at v 0) (c.in_ok-routing.ensures ∙ ap routing_in routing) in
     ap (mapped (λ (i : Interpreted). i.parts)) (exit c.from_residual-in_err-parts.result _ c.from_residual-in_err-parts.ensures.1)
     ∙ refused_interpreted v _ _
     (read_unwalked built_in v c.if-n-gt1048576.false c.if-n-lt4.false _ _ small
@@ -74,7 +74,7 @@ returns-in-Some-clause-parts c =
     let v = c.args.value.now in
     let routing : c.from_be_bytes.result ≡ two_at v 0 = omega (arith, c.from_be_bytes.ensures) in
     let k = known v c.in_ok-parts.parts (octets-of v (λ i. (c.type_inv.value i).fits)) c.if-n-gt1048576.false c.if-n-lt4.false
-    (c.in_ok-from_u16.ensures ∙ ap routing_in routing) c.in_ok-parts.ensures in
+    (c.in_ok-routing.ensures ∙ ap routing_in routing) c.in_ok-parts.ensures in
     refused_interpreted v _ _ (read_short k c.in-Some.short c.in-Some.is ∙ ap (λ (n : ℕ × List ℕ). refused n.0 n.1) (sym c.too_short.ensures))
 
 pub invariant_of-result : goal.invariant_of-result
@@ -86,8 +86,9 @@ invariant_of-result c =
       long = c.if-n-lt4.false;
       within = c.if-n-gt1048576.false;
       fits = λ i. (c.type_inv.value i).fits;
+      routed = c.in_ok-routing.ensures ∙ ap routing_in routing;
       read = whole v c.in_ok-parts.parts (octets-of v (λ i. (c.type_inv.value i).fits)) c.if-n-gt1048576.false c.if-n-lt4.false
-          (c.in_ok-from_u16.ensures ∙ ap routing_in routing) c.in_ok-parts.ensures c.in_default.is;
+          (c.in_ok-routing.ensures ∙ ap routing_in routing) c.in_ok-parts.ensures c.in_default.is;
     }
 
 pub returns-clause-parts : goal.returns-clause-parts
@@ -96,4 +97,4 @@ returns-clause-parts c =
     let v = c.args.value.now in
     let routing : c.from_be_bytes.result ≡ two_at v 0 = omega (arith, c.from_be_bytes.ensures) in
     whole v c.in_ok-parts.parts (octets-of v (λ i. (c.type_inv.value i).fits)) c.if-n-gt1048576.false c.if-n-lt4.false
-    (c.in_ok-from_u16.ensures ∙ ap routing_in routing) c.in_ok-parts.ensures c.in_default.is
+    (c.in_ok-routing.ensures ∙ ap routing_in routing) c.in_ok-parts.ensures c.in_default.is

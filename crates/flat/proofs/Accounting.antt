@@ -53,12 +53,12 @@ pub title_marked :
 title_marked o k {a} {b} e x =
     subst (λ (os : List ℕ). Writes a os b) (sym (marked_map title_fields (λ (t : TitleValue). title_at built_in t.octets.now) o) ∙ ap (marked title_fields) e) x
 
-pub code_marked :
-    (o : Option (List ℕ)) (k : Option ℕ) {a b : Writer}
-    → o ≡ option_map four k
+pub part_marked :
+    {X : Type 0} (f : X → List ℕ) (o : Option (List ℕ)) (k : Option X) {a b : Writer}
+    → o ≡ option_map f k
     → Writes a (marked (λ (os : List ℕ). os) o) b
-    → Writes a (marked four k) b
-code_marked o k {a} {b} e x = subst (λ (os : List ℕ). Writes a os b) (ap (marked (λ (os : List ℕ). os)) e ∙ marked_map (λ (os : List ℕ). os) four k) x
+    → Writes a (marked f k) b
+part_marked f o k {a} {b} e x = subst (λ (os : List ℕ). Writes a os b) (ap (marked (λ (os : List ℕ). os)) e ∙ marked_map (λ (os : List ℕ). os) f k) x
 
 -- what the parts of an address take
 pub title_small : (v : List ℕ) (k : Option Place) → Octets v → length (marked title_fields (kept_title built_in v k)) ≤ 262

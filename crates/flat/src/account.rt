@@ -45,24 +45,15 @@ impl<'a> Writer<'a> {
         }
     }
 
-    // Stores 1 and the octets of a point code. Without one, 0.
-    fn code(&mut self, code: Option<[u8; 4]>)
-        ensures { Writes self.old (marked (λ (os : List ℕ). os) code) self.new }
+    // Stores 1 and the octets of a part. Without it, 0.
+    fn marked<const N: usize>(&mut self, octets: Option<[u8; N]>)
+        ensures { Writes self.old (marked (λ (os : List ℕ). os) octets.entry) self.new }
     {
-        let Some(octets) = code else {
+        let Some(octets) = octets else {
             return self.put(&[0]);
         };
-        self.put(&[1, octets[0], octets[1], octets[2], octets[3]]);
-    }
-
-    // Stores 1 and an SSN. Without one, 0.
-    fn ssn(&mut self, ssn: Option<u8>)
-        ensures { Writes self.old (marked (λ (n : ℕ). n ∷ []) ssn) self.new }
-    {
-        match ssn {
-            Some(n) => self.put(&[1, n]),
-            None => self.put(&[0]),
-        }
+        self.put(&[1]);
+        self.put(&octets);
     }
 
     // Stores the number of the other sub-parameters, and their places, counted from the message's first octet. It walks only
@@ -95,8 +86,8 @@ impl<'a> Writer<'a> {
         let value = it.value;
         self.put(&[value[0], value[1], value[3] % 8]);
         self.title(it.title());
-        self.code(it.code());
-        self.ssn(it.ssn());
+        self.marked(it.code());
+        self.marked(it.ssn().map(u8::to_be_bytes));
         self.others(it, base);
     }
 

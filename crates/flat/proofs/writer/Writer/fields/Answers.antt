@@ -1,6 +1,10 @@
 -- `flat::writer::Writer::fields` meets its contract.
+use Prim.Native.Nat.{ℕ}
+use mathlib.Core.List.{[], ◌∷◌}
+use borrow.Author.Rules.{rules}
+use Rattle.parameter.specs.Parameter.{four}
 use Rattle.flat.proofs.Emission.{writes_more}
-use Rattle.flat.proofs.Accounting.{whole, parts_stored, title_marked, code_marked}
+use Rattle.flat.proofs.Accounting.{whole, parts_stored, title_marked, part_marked}
 use Rattle.flat.proofs.writer.Writer.fields.Goals as goal
 
 pub returns : goal.returns
@@ -9,6 +13,7 @@ returns c =
     let s = c.args.it.now.parts in
     let r = whole c.args.it.now in
     let title = title_marked c.title.result _ c.title.ensures c.title-2.ensures in
-    let code = code_marked c.code.result _ c.code.ensures c.code-2.ensures in
+    let code = part_marked four c.code.result _ c.code.ensures c.marked.ensures in
+    let ssn = part_marked (λ (n : ℕ). n ∷ []) c.map.result c.ssn.result (search rules) c.marked-2.ensures in
     parts_stored c.args.base v s r.known.octets
-    (writes_more (writes_more (writes_more (writes_more c.put.ensures title) code) (rw c.ssn.ensures at c.ssn-2.ensures)) c.others.ensures)
+    (writes_more (writes_more (writes_more (writes_more c.put.ensures title) code) (rw c.ssn.ensures at ssn)) c.others.ensures)

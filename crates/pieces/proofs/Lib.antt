@@ -2,3 +2,4 @@
 pub mod PointCodes
 pub mod Running
 pub mod Placing
+pub mod Sizes

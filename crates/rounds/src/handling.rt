@@ -1,5 +1,5 @@
 // The handling fields of a message: seven accessors, one after the other, beside the one walk.
-use crate::sums::Sum;
+use crate::sums::{Sum, summed};
 use message::SuaMessage;
 use parameter::Place;
 use parameter::table::Records;
@@ -20,12 +20,8 @@ struct Lent<'a> {
 }
 
 impl<'a> Lent<'a> {
-    fn records(&self) -> Records<'_> {
-        Records::new(self.octets, self.rows)
-    }
-
     // Alters an octet behind the message and a row behind the last one, so that no round is given what an earlier one was.
-    fn alter(&mut self, i: u32) {
+    fn altered(&mut self, i: u32) -> Records<'_> {
         let [low, second, ..] = i.to_le_bytes();
         self.octets[8191] = low;
         self.rows[1000] = Place {
@@ -33,6 +29,7 @@ impl<'a> Lent<'a> {
             start: i as usize,
             length: i as usize,
         };
+        Records::new(self.octets, self.rows)
     }
 }
 
@@ -76,14 +73,12 @@ pub(crate) fn rounds(
         return 0;
     };
     let mut lent = Lent { octets, rows };
-    let mut sum = Sum(0);
-    for i in 0..count {
-        lent.alter(i);
-        sum = match work {
-            Work::Accessors => seven(sum, m, lent.records()),
-            Work::Screen => screen(sum, m, lent.records()),
-            Work::Nothing => sum.add(&1u64),
-        };
+    match work {
+        Work::Accessors => summed(count, move |sum, i| seven(sum, m, lent.altered(i))),
+        Work::Screen => summed(count, move |sum, i| screen(sum, m, lent.altered(i))),
+        Work::Nothing => summed(count, move |sum, i| {
+            lent.altered(i);
+            sum.add(&1u64)
+        }),
     }
-    sum.0
 }

@@ -144,3 +144,14 @@ impl Sum {
         summand.add_to(self)
     }
 }
+
+// The sum of so many rounds. Each adds to it, and is given its number, so that none does what an earlier one did.
+pub(crate) fn summed<F: FnMut(Sum, u32) -> Sum>(count: u32, mut round: F) -> u64
+    requires { F.IsAlwaysCallable round }
+{
+    let mut sum = Sum(0);
+    for i in 0..count {
+        sum = round(sum, i);
+    }
+    sum.0
+}

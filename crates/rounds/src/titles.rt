@@ -1,7 +1,7 @@
 // Digits written: alone, in a title, and in an address with that title and an SSN.
 ghost use Rattle.std.specs.Prelude.{◌≤◌};
 
-use crate::sums::Sum;
+use crate::sums::{Sum, summed};
 use address::{GlobalTitle, SuaAddress};
 use bcd::encode_gt_digits;
 use bcd::error::Refusal;
@@ -34,22 +34,6 @@ fn answered(sum: Sum, i: u32, answer: Result<usize, Refusal>, out: &[u8]) -> Sum
     }
 }
 
-// The sum of so many rounds. Each is given the lowest octet of its number, so that none does what an earlier one did.
-fn summed<F: FnMut(u8, &mut [u8]) -> Result<usize, Refusal>>(
-    count: u32,
-    out: &mut [u8],
-    mut write: F,
-) -> Sum
-    requires { F.IsAlwaysCallable write }
-{
-    let mut sum = Sum(0);
-    for i in 0..count {
-        let answer = write((i % 256) as u8, out);
-        sum = answered(sum, i, answer, out);
-    }
-    sum
-}
-
 // The sum of so many rounds of a work on the first n octets: how long the output is, and at most 255 digits. 0 where they are
 // not that. What is altered is the octet behind the digits, the title's translation type or the address's SSN.
 pub(crate) fn rounds(work: Work, count: u32, n: usize, octets: &mut [u8; 8192]) -> u64 {
@@ -64,22 +48,21 @@ pub(crate) fn rounds(work: Work, count: u32, n: usize, octets: &mut [u8; 8192]) 
     digits[..n - 1].copy_from_slice(given);
     let mut title = GlobalTitle::e164(digits, n - 1);
     let mut address = SuaAddress::with_gt(title, Some(8));
-    let sum = match work {
-        Work::Alone => summed(count, out, move |octet, out| {
+    match work {
+        Work::Alone => summed(count, move |sum, i| {
             if let Some(first) = behind.first_mut() {
-                *first = octet;
+                *first = (i % 256) as u8;
             }
-            encode_gt_digits(given, out)
+            answered(sum, i, encode_gt_digits(given, out), out)
         }),
-        Work::Title => summed(count, out, move |octet, out| {
-            title.translation_type = octet;
-            title.encode(out)
+        Work::Title => summed(count, move |sum, i| {
+            title.translation_type = (i % 256) as u8;
+            answered(sum, i, title.encode(out), out)
         }),
-        Work::Address => summed(count, out, move |octet, out| {
-            address.ssn = Some(octet);
-            address.encode(Records::new(b"", &[]), out)
+        Work::Address => summed(count, move |sum, i| {
+            address.ssn = Some((i % 256) as u8);
+            answered(sum, i, address.encode(Records::new(b"", &[]), out), out)
         }),
-        Work::Nothing => summed(count, out, |_, _| Ok(n)),
-    };
-    sum.0
+        Work::Nothing => summed(count, |sum, i| answered(sum, i, Ok(n), out)),
+    }
 }

@@ -1,10 +1,12 @@
 // The calls that write digits, titles, addresses, parameters, messages or a form.
+use crate::answers::Answer;
 use crate::call::Call;
 use crate::constructors;
 use crate::reply::Reply;
 use address::rewrite::rewrite;
 use address::{GlobalTitle, SuaAddress};
 use bcd::encode_gt_digits;
+use bcd::error::Refusal;
 use form::settle;
 use message::SuaMessage;
 use message::header::CommonHeader;
@@ -12,15 +14,29 @@ use message::point_codes::pack_affected_point_codes;
 use message::types::MessageType;
 use parameter::table::Records;
 
-fn digits(call: &mut Call, reply: &mut Reply) {
-    let digits = call.string();
-    reply.written(call.number(), |out| encode_gt_digits(digits, out));
+// A call on octets.
+fn of_octets<T: Answer + Drop, F: FnOnce(&[u8], &mut [u8]) -> T>(
+    call: &mut Call,
+    reply: &mut Reply,
+    write: F,
+)
+    requires { F.IsAlwaysCallable write }
+{
+    let octets = call.string();
+    reply.written(call.number(), |out| write(octets, out));
 }
 
-fn parameter(call: &mut Call, reply: &mut Reply) {
+// A call on a tag and a value.
+fn of_tagged<F: FnOnce(u16, &[u8], &mut [u8]) -> Result<usize, Refusal>>(
+    call: &mut Call,
+    reply: &mut Reply,
+    write: F,
+)
+    requires { F.IsAlwaysCallable write }
+{
     let tag = call.number();
     let value = call.string();
-    reply.written(call.number(), |out| parameter::encode(tag, value, out));
+    reply.written(call.number(), |out| write(tag, value, out));
 }
 
 fn title(title: GlobalTitle, call: &mut Call, reply: &mut Reply) {
@@ -40,17 +56,6 @@ fn address(call: &mut Call, reply: &mut Reply) {
     let room = call.number();
     let table = call.table();
     reply.written(room, |out| address.encode(table.records(), out));
-}
-
-fn rewritten(call: &mut Call, reply: &mut Reply) {
-    let tag = call.number();
-    let value = call.string();
-    reply.written(call.number(), |out| rewrite(tag, value, out));
-}
-
-fn settled(call: &mut Call, reply: &mut Reply) {
-    let input = call.string();
-    reply.written(call.number(), |out| settle(input, out));
 }
 
 fn parameters(call: &mut Call, reply: &mut Reply) {
@@ -93,13 +98,10 @@ fn point_codes(call: &mut Call, reply: &mut Reply) {
 }
 
 // The entries that fill a report: its four numbers.
-fn read(call: &mut Call, reply: &mut Reply) {
-    let input = call.string();
-    reply.written(call.number(), |out| {
-        let mut report = [0u64; 4];
-        entry::sua_read(input, out, &mut report);
-        report
-    });
+fn read(input: &[u8], out: &mut [u8]) -> [u64; 4] {
+    let mut report = [0u64; 4];
+    entry::sua_read(input, out, &mut report);
+    report
 }
 
 fn encode(call: &mut Call, reply: &mut Reply) {
@@ -115,8 +117,8 @@ fn encode(call: &mut Call, reply: &mut Reply) {
 
 pub(crate) fn answer(call: &mut Call, reply: &mut Reply) {
     match call.name {
-        "encode_gt_digits" => digits(call, reply),
-        "parameter_encode" => parameter(call, reply),
+        "encode_gt_digits" => of_octets(call, reply, encode_gt_digits),
+        "parameter_encode" => of_tagged(call, reply, parameter::encode),
         "encode_parameters" => parameters(call, reply),
         "title_encode" => title(call.title(), call, reply),
         "e164" => title(GlobalTitle::e164(call.digits(), call.number()), call, reply),
@@ -127,12 +129,12 @@ pub(crate) fn answer(call: &mut Call, reply: &mut Reply) {
             call,
             reply,
         ),
-        "rewrite" => rewritten(call, reply),
+        "rewrite" => of_tagged(call, reply, rewrite),
         "header_encode" => header(call, reply),
         "message_encode" => message(call, reply),
         "pack_affected_point_codes" => point_codes(call, reply),
-        "settle" => settled(call, reply),
-        "read" => read(call, reply),
+        "settle" => of_octets(call, reply, settle),
+        "read" => of_octets(call, reply, read),
         "encode" => encode(call, reply),
         _ => constructors::answer(call, reply),
     }

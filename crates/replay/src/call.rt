@@ -151,10 +151,10 @@ impl<'a> Call<'a> {
 
     // Digits, in front of zeros.
     pub(crate) fn digits(&mut self) -> [u8; 255] {
+        let given = self.string();
+        let count = given.len().min(255);
         let mut digits = [0u8; 255];
-        for (digit, &octet) in digits.iter_mut().zip(self.string()) {
-            *digit = octet;
-        }
+        digits[..count].copy_from_slice(&given[..count]);
         digits
     }
 

@@ -21,9 +21,7 @@ impl<'a, T: Copy> Store<'a, T> {
         let from = self.count.min(self.room.len());
         let left = self.room.len() - from;
         let n = left.min(usize::try_from(times).unwrap_or(left));
-        for place in &mut self.room[from..from + n] {
-            *place = item;
-        }
+        self.room[from..from + n].fill_with(|| item);
         self.count = from + n;
     }
 

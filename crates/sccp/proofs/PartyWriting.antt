@@ -1,5 +1,5 @@
 -- The party address of an address that converts: its parts, and that it is written.
-use Prim.Native.Nat.{ℕ, ◌+◌, ◌-◌, ◌*◌, ◌%◌, ◌≤◌, ◌<◌}
+use Prim.Native.Nat.{ℕ, ◌+◌, ◌-◌, ◌*◌, ◌/◌, ◌%◌, ◌≤◌, ◌<◌}
 use mathlib.Core.Path.{◌≡◌, refl, sym, ap, ◌∙◌, subst}
 use mathlib.Core.Bool.{Bool, true, false}
 use mathlib.Core.List.{List, [], ◌∷◌, ◌++◌, append_assoc}
@@ -8,6 +8,8 @@ use borrow.Author.Tests.{le-leb}
 use borrow.Rule.Slice.PartMut.{mid_of, put_mid}
 use lib.ListN.{length, set, drop, length-append}
 use Rattle.std.specs.Prelude.{Option, None, Some, option_map, unwrap_or, is_some}
+use Rattle.std.specs.Int.{to_le_bytes}
+use mir.Syntax.{w16}
 use Rattle.bcd.specs.Outcome.{Outcome, accepted, refused, pick, mapped, deliver}
 use Rattle.bcd.proofs.Outcomes.{deliver_too_long}
 use Rattle.bcd.proofs.Writing.{Begun, untouched, begin, store, delivered}
@@ -82,6 +84,15 @@ code-size (Some n) = refl
 sub-size : (o : Option ℕ) → length (sub_octets o) ≡ pick (is_some o) 1 0
 sub-size None = refl
 sub-size (Some n) = refl
+
+-- The octets of a point code and of an SSN as they are put.
+pub low_first : (n : Option ℕ) (o : Option (List ℕ)) → unwrap_or n 0 ≤ 16383 → o ≡ option_map (to_le_bytes w16) n → unwrap_or o [] ≡ code_octets n
+low_first None o h e = rw e refl
+low_first (Some n) o h e = let a : n / 256 % 256 ≡ n / 256 = omega (arith, h) in rw (e, a) refl
+
+pub alone : (n : Option ℕ) (o : Option (List ℕ)) → o ≡ option_map (λ n. n ∷ []) n → unwrap_or o [] ≡ sub_octets n
+alone None o e = rw e refl
+alone (Some n) o e = rw e refl
 
 module _ (p : Common) where
   -- Its front, up to the point code and up to the SSN, and all of it.

@@ -5,7 +5,7 @@ use mathlib.Core.Bool.{Bool, true, false, ◌&&◌}
 use mathlib.Core.List.{List, [], ◌∷◌, map}
 use native.Mathlib.Omega.{arith}
 use borrow.Author.Tests.{ne_eqb, eq-eqb, eqb-true}
-use lib.Dec.{eqb}
+use lib.Dec.{leb, eqb}
 use lib.ListN.{length, get_or, length-map}
 use Rattle.std.specs.Prelude.{Option, is_some}
 use Rattle.bcd.specs.Outcome.{Outcome, accepted, refused, pick, after, demand}
@@ -17,7 +17,7 @@ use Rattle.bcd.proofs.Results.{refusal_as}
 use Rattle.parameter.specs.Parameter.{Param, two_at}
 use Rattle.parameter.specs.Walk.{valued}
 use Rattle.address.specs.Address as Sua
-use Rattle.address.specs.Address.{Address, address_with, bit, read_address}
+use Rattle.address.specs.Address.{Address, address_with, bit, routing_in, read_address}
 use Rattle.address.specs.Listing.{other_places}
 use Rattle.address.specs.Parts.{kept_title, kept_code, kept_sub}
 use Rattle.address.specs.Steps.Plan.{Read}
@@ -57,6 +57,10 @@ regrouped true true true c e t = go c
 regrouped true true false c e t = refl
 regrouped true false b c e t = refl
 regrouped false a b c e t = refl
+
+-- The routing indicator that was read.
+pub routed_as : (n m : ℕ) → accepted n ≡ routing_in m → m ≡ n
+routed_as n m e = let (t, same) = demand_inv (leb m 4) 8 (m ∷ []) (accepted m) (sym e) in accepted_inj same
 
 -- The routing by the code's test.
 routing_told : (v : List ℕ) → routes (two_at v 0) ≡ true → pick (eqb (get_or v 1 0) 1) 1 2 ≡ two_at v 0

@@ -1,9 +1,9 @@
 // Party addresses of SCCP, read and written (ITU-T Q.713, 3.4).
-ghost use Rattle.std.specs.Prelude.{◌≡◌, ◌≤◌, length, option_map, unwrap_or, is_some, IfOk};
+ghost use Rattle.std.specs.Prelude.{◌≡◌, ◌≤◌, [], length, option_map, unwrap_or, is_some, IfOk};
 ghost use Rattle.bcd.specs.Outcome.{accepted, pick, mapped, bounded, delivered, deliver};
 ghost use Rattle.bcd.specs.Answers.{outcome_of};
 ghost use Rattle.sccp.specs.Sccp.{code_in, sub_in, digit_count, digits_of, title_in, title_by, sccp_in};
-ghost use Rattle.sccp.specs.Sccp.{code_octets, sub_octets, title_octets, indicator, sccp_octets};
+ghost use Rattle.sccp.specs.Sccp.{title_octets, indicator, sccp_octets};
 ghost use Rattle.sccp.specs.Steps.{digits_from, title_from, address_from, behind, title_length, party_length};
 
 use crate::common::{Common, Digits, Title};
@@ -125,32 +125,18 @@ pub(crate) fn read(octets: &[u8]) -> Result<Common<'_>, Refusal>
     address_in(octets)
 }
 
-// Stores the point code, if it is there, the low octet first, and tells how many octets it takes.
+// Stores the octets of a part, if it is there, and tells how many they are.
 #[tactic(auto, unfolding(bcd::specs::Outcome::deliver))]
-fn put_code(code: Option<u16>, out: &mut [u8]) -> usize
-    requires { pick (is_some code) 2 0 ≤ length out.old }
-    ensures size { result ≡ pick (is_some code) 2 0 }
-    ensures written { delivered (accepted result) out.new ≡ deliver (accepted (code_octets code)) out.old }
+fn put<const N: usize>(octets: Option<[u8; N]>, out: &mut [u8]) -> usize
+    requires { pick (is_some octets) N 0 ≤ length out.old }
+    ensures size { result ≡ pick (is_some octets.entry) N 0 }
+    ensures written { delivered (accepted result) out.new ≡ deliver (accepted (unwrap_or octets.entry [])) out.old }
 {
-    let Some(code) = code else {
+    let Some(octets) = octets else {
         return 0;
     };
-    out[..2].copy_from_slice(&code.to_le_bytes());
-    2
-}
-
-// Stores the SSN, if it is there, and tells how many octets it takes.
-#[tactic(auto, unfolding(bcd::specs::Outcome::deliver))]
-fn put_ssn(ssn: Option<u8>, out: &mut [u8]) -> usize
-    requires { pick (is_some ssn) 1 0 ≤ length out.old }
-    ensures size { result ≡ pick (is_some ssn) 1 0 }
-    ensures written { delivered (accepted result) out.new ≡ deliver (accepted (sub_octets ssn)) out.old }
-{
-    let Some(ssn) = ssn else {
-        return 0;
-    };
-    out[0] = ssn;
-    1
+    out[..N].copy_from_slice(&octets);
+    N
 }
 
 // Stores the title, if it is there, and tells how many octets it takes. The encoding scheme is odd for an odd number of digits.
@@ -199,7 +185,8 @@ pub(crate) fn write(address: Common<'_>, out: &mut [u8]) -> Result<usize, Refusa
         return Err(Refusal::OutputTooSmall(length));
     }
     out[0] = indicator(address);
-    let ssn_place = 1 + put_code(address.point_code, &mut out[1..]);
-    let title_place = ssn_place + put_ssn(address.ssn, &mut out[ssn_place..]);
+    // The low octet of the point code comes first (Q.713, 3.4.2.1).
+    let ssn_place = 1 + put(address.point_code.map(u16::to_le_bytes), &mut out[1..]);
+    let title_place = ssn_place + put(address.ssn.map(u8::to_be_bytes), &mut out[ssn_place..]);
     Ok(title_place + put_title(address.title, &mut out[title_place..]))
 }

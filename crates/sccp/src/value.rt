@@ -6,30 +6,40 @@ ghost use Rattle.bcd.specs.Digits.{built_in};
 ghost use Rattle.parameter.specs.Parameter.{run_octets};
 ghost use Rattle.address.specs.Address.{title_at, read_address, write_address};
 ghost use Rattle.address.specs.Parts.{kept_title, kept_code};
-ghost use Rattle.sccp.specs.Sccp.{absent_or, title_converts, converts};
+ghost use Rattle.address.specs.Records.{routing_value};
+ghost use Rattle.sccp.specs.Sccp.{routes, absent_or, title_converts, converts};
 ghost use Rattle.sccp.specs.Steps.{title_from, address_from, plain_parts, convertible};
 ghost use Rattle.sccp.specs.Steps.{title_param, param_length, head_from, value_length};
 
 use crate::common::{Common, Digits, Title};
+use address::RoutingIndicator;
 use address::encode::write_four;
 use address::interpret::{Interpreted, TitleValue, interpret};
 use bcd::error::Refusal;
 use parameter::tags;
 
+// Whether it is routing on title, or on SSN and point code.
+fn routes(routing: RoutingIndicator) -> bool
+    ensures { result ≡ routes (routing_value routing) }
+{
+    matches!(
+        routing,
+        RoutingIndicator::RouteOnGlobalTitle | RoutingIndicator::RouteOnSsnAndPc
+    )
+}
+
 // Whether an address is routed on title or on SSN and point code, its include bits say which parts are there, and there are no
 // other sub-parameters.
-#[tactic(auto, unfolding(parameter::specs::Parameter::two_at))]
+#[tactic(auto, using(crate::proofs::ValueReading::routed_as))]
 fn plain(address: Interpreted<'_>) -> bool
     ensures { result ≡ plain_parts address.entry.value.now address.entry.parts }
 {
-    let value = address.value;
     let parts = address.parts;
-    let routing = u16::from_be_bytes([value[0], value[1]]);
-    let bits = value[3];
+    let bits = address.value[3];
     let title = parts.title.is_some();
     let code = parts.code.is_some();
     let ssn = parts.ssn.is_some();
-    (routing == 1 || routing == 2)
+    routes(address.routing)
         && (bits / 4 % 2 == 1) == title
         && (bits / 2 % 2 == 1) == code
         && (bits % 2 == 1) == ssn

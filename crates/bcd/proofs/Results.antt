@@ -1,14 +1,17 @@
 -- The laws of `outcome_of`: a result by its outcome, and the exit of a `?`.
-use Prim.Native.Nat.{ℕ}
-use mathlib.Core.Path.{◌≡◌, ap, ◌∙◌}
-use mathlib.Core.List.{List}
+use Prim.Native.Nat.{ℕ, ◌≤◌, ◌<◌}
+use mathlib.Core.Path.{◌≡◌, refl, sym, ap, ◌∙◌}
+use mathlib.Core.Bool.{Bool, true, false}
+use mathlib.Core.List.{List, [], ◌∷◌}
+use lib.Dec.{leb}
+use borrow.Author.Tests.{leb-true, leb-false}
 use lib.ListN.{length}
 use Rattle.std.specs.Prelude.{Result, IsErrAnd}
 use Rattle.std.proofs.lemmas.Result.{err_from_is_err_and}
-use Rattle.bcd.specs.Outcome.{Outcome, refused, mapped, deliver}
+use Rattle.bcd.specs.Outcome.{Outcome, accepted, refused, demand, most, mapped, deliver}
 use Rattle.bcd.specs.Answers.{refusal_of, outcome_of}
 use Rattle.bcd.specs.declared.error.Refusal.{Refusal}
-use Rattle.bcd.proofs.Outcomes.{deliver-passed_on}
+use Rattle.bcd.proofs.Outcomes.{never, demand_inv, deliver-passed_on}
 
 -- a refusal is the same, whatever was to come
 pub refusal_as : {A : Type 0} (B : Type 0) (x : Refusal) {n : ℕ} {vs : List ℕ} → refusal_of {A = A} x ≡ refused n vs → refusal_of {A = B} x ≡ refused n vs
@@ -29,3 +32,17 @@ module _ (result : Result ℕ Refusal) (x : Refusal) (came : IsErrAnd result (λ
 
   pub exit_delivered : (o : Outcome (List ℕ)) (out : List ℕ) → refusal_of x ≡ o → record { answer = outcome_of result; buffer = out } ≡ deliver o out
   exit_delivered o out e = exit_passed_on o out (ap (mapped length) e)
+
+-- what `within` tells: so many octets are few enough, or refused
+pub few_octets : {A : Type 0} {a : A} {n : ℕ} → accepted a ≡ demand (leb n most) 12 (n ∷ []) (accepted a) → n ≤ most
+few_octets {n = n} e = leb-true n most (demand_inv (leb n most) _ _ _ (sym e)).0
+
+pub many_octets :
+    {A : Type 0} (a : A) {n : ℕ} (m : ℕ) (vs : List ℕ)
+    → refused m vs ≡ demand (leb n most) 12 (n ∷ []) (accepted a)
+    → (most < n) × (m ≡ 12) × (vs ≡ n ∷ [])
+many_octets a {n = n} m vs e = go (leb n most) refl e
+  where
+    go : (b : Bool) → leb n most ≡ b → refused m vs ≡ demand b 12 (n ∷ []) (accepted a) → (most < n) × (m ≡ 12) × (vs ≡ n ∷ [])
+    go true t e = absurd (never e)
+    go false t e = let h : m ≡ 12 = cc in let k : vs ≡ n ∷ [] = cc in (leb-false n most t, h, k)

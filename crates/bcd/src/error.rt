@@ -1,6 +1,10 @@
 // Why a call refuses. Documents 01 and 02 number the refusals in this order, from 1; the first
 // nine are those of error.rs.
 
+ghost use Rattle.std.specs.Prelude.{◌≡◌, [], ◌∷◌, leb};
+ghost use Rattle.bcd.specs.Outcome.{accepted, demand, most};
+ghost use Rattle.bcd.specs.Answers.{outcome_of};
+
 #[derive(Clone, Copy, Debug, PartialEq, Eq)]
 pub enum Refusal {
     // The octets are fewer than an item of this kind has at least.
@@ -55,4 +59,15 @@ pub enum Refusal {
     UnconvertibleAddress,
     // Octets that are no SCCP party address, or one that does not convert.
     InvalidSccpAddress,
+}
+
+// So many octets are at most 1,048,576, else 12.
+#[inline(always)]
+pub fn within(octets: usize) -> Result<(), Refusal>
+    ensures { outcome_of result ≡ demand (leb octets most) 12 (octets ∷ []) (accepted tt) }
+{
+    if 1048576 < octets {
+        return Err(Refusal::TooManyOctets(octets));
+    }
+    Ok(())
 }

@@ -11,7 +11,7 @@ ghost use Rattle.bcd.specs.Digits.{halves, built_in, digits_in, read_digits, wri
 ghost use Rattle.bcd.specs.Digits.{written, digits_record};
 ghost use Rattle.bcd.specs.Steps.{one_half};
 
-use error::Refusal;
+use error::{Refusal, within};
 
 // Digits that were read, in front of zeros, and how many there are.
 #[derive(Clone, Copy, Debug, PartialEq, Eq)]
@@ -135,9 +135,7 @@ pub fn decode_gt_digits(bytes: &[u8], num_digits: u8) -> Result<GtDigits, Refusa
     ensures { outcome_of result ≡ mapped digits_record (read_digits built_in bytes.now num_digits) }
 {
     let given = bytes.len();
-    if 1048576 < given {
-        return Err(Refusal::TooManyOctets(given));
-    }
+    within(given)?;
     let count = usize::from(num_digits).min(2 * given);
     let mut digits = [0u8; 255];
     unpack_digits(bytes, &mut digits[..count]);

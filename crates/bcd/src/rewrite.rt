@@ -5,7 +5,7 @@ ghost use Rattle.bcd.specs.Outcome.{accepted, refused, pick, after, mapped};
 ghost use Rattle.bcd.specs.Answers.{outcome_of};
 ghost use Rattle.bcd.specs.Digits.{halves, pack, built_in, digits_in, read_digits, write_digits};
 
-use crate::error::Refusal;
+use crate::error::{Refusal, within};
 
 // Whether one of the first n half octets is 15, which reads as `?` and is never written. The largest is kept, so that the loop
 // has no branch on an octet.
@@ -32,9 +32,7 @@ pub fn rewritten_digits_length(bytes: &[u8], num_digits: u8) -> Result<usize, Re
         ≡ mapped length (after (read_digits built_in bytes.now num_digits) (write_digits built_in)) }
 {
     let given = bytes.len();
-    if 1048576 < given {
-        return Err(Refusal::TooManyOctets(given));
-    }
+    within(given)?;
     let n = usize::from(num_digits).min(2 * given);
     if unknown(bytes, n) {
         return Err(Refusal::InvalidBcdDigit(b'?'));

@@ -5,17 +5,20 @@ use native.Mathlib.Omega.{arith}
 use lib.ListN.{length, take, replicate}
 use lib.Seq.{length-take-le}
 use Rattle.bcd.specs.Digits.{built_in, digits_in}
+use Rattle.bcd.proofs.Results.{exit, few_octets, many_octets}
 use Rattle.bcd.proofs.Reading.{reading_refused, reading_done}
 use Rattle.bcd.proofs.decode_gt_digits.Goals as goal
 
-pub returns-then-given-gt1048576 : goal.returns-then-given-gt1048576
-returns-then-given-gt1048576 c = reading_refused built_in c.args.bytes.now c.args.num_digits c.if-given-gt1048576.true
+pub returns-in_err-within : goal.returns-in_err-within
+returns-in_err-within c =
+    let (h, a, b) = many_octets tt _ _ c.in_err-within.ensures in
+    rw (exit c.from_residual.result _ c.from_residual.ensures.1, a, b) (reading_refused built_in c.args.bytes.now c.args.num_digits h)
 
 pub returns : goal.returns
 returns c =
     let count = c.min-count.result in
     let room : count ≤ 255 = omega (arith, c.from.ensures, c.min-count.ensures, c.ranges.num_digits.fits) in
     let lent : length {A = ℕ} (take count (replicate 255 0)) ≡ count = length-take-le count (replicate 255 0) room in
-    reading_done built_in c.args.bytes.now c.args.num_digits count c.unpack_digits.new.out c.if-given-gt1048576.false
+    reading_done built_in c.args.bytes.now c.args.num_digits count c.unpack_digits.new.out (few_octets c.in_ok-within.ensures)
     (omega (arith, c.from.ensures, c.min-count.ensures))
     (c.unpack_digits.ensures ∙ ap (digits_in built_in c.args.bytes.now) lent)

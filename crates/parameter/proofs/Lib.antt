@@ -6,6 +6,7 @@ pub mod RoundTrip
 pub mod Reading
 pub mod Encoding
 pub mod Reaching
+pub mod Counting
 pub mod Filling
 pub mod Records
 pub mod Running

@@ -14,12 +14,7 @@ use bcd::error::Refusal;
 pub fn count(bytes: &[u8], from: usize) -> Result<usize, Refusal>
     ensures { outcome_of result ≡ mapped length (bounded bytes.now (places bytes.now from)) }
 {
-    let mut n: usize = 0;
-    for place in Parameters::new(bytes, from) {
-        place?;
-        n += 1;
-    }
-    Ok(n)
+    Parameters::new(bytes, from).try_fold(0, |n, place| place.map(|_| n + 1))
 }
 
 // Stores the places of all parameters from a position on, in rows that are as many.

@@ -1,35 +1,16 @@
 -- `parameter::table::count` meets its contract: the walk has come past n parameters.
-use mathlib.Core.Path.{sym, ap, ◌∙◌}
-use native.Mathlib.Omega.{arith}
-use lib.ListN.{length}
-use Rattle.bcd.specs.Outcome.{accepted, mapped}
-use Rattle.bcd.proofs.Results.{exit}
-use Rattle.parameter.specs.declared.Parameters.{Parameters}
-use Rattle.parameter.proofs.Reaching.{passed_none, passed_small, passed_next, passed_end, passed_refused}
+use borrow.Author.Rules.{rules}
+use Rattle.parameter.proofs.Reaching.{passed_none}
+use Rattle.parameter.proofs.Counting.{passes, turns, ended}
 use Rattle.parameter.proofs.table.count.Goals as goal
 
-pub loop-place-init : goal.loop-place-init
-loop-place-init c =
-    let i = c.into_iter-place-iterator.ensures.into_iter_gives in
-    passed_none c.args.bytes.now c.args.from _ (ap (λ (s : Parameters). s.bytes.now) i ∙ c.new-place-items.ensures.bytes) (ap (λ (s : Parameters). s.at) i ∙ c.new-place-items.ensures.at)
-
-pub returns-in_err-place : goal.returns-in_err-place
-returns-in_err-place c =
-    let s = rw (c.in_err-place.was) at c.in-Some.ensures.steps in
-    exit c.from_residual.result _ c.from_residual.ensures.1 ∙ sym (ap (mapped length) (passed_refused c.loop-place.invariant _ _ s.1))
-
-pub overflow_add-n : goal.overflow_add-n
-overflow_add-n c =
-    let s = rw (c.in_ok-place.was) at c.in-Some.ensures.steps in
-    let small = passed_small c.loop-place.invariant s.1 in
-    omega arith
-
-pub loop-place-preserved : goal.loop-place-preserved
-loop-place-preserved c =
-    let s = rw (c.in_ok-place.was) at c.in-Some.ensures.steps in
-    passed_next c.loop-place.invariant c.in_ok-place.field-0 c.next.new.self.at s.0 s.1
+pub try_fold-requires-clause-callable : goal.try_fold-requires-clause-callable
+try_fold-requires-clause-callable c =
+    turns _ (λ p q x t. search rules) (λ p q e t. search rules) c.args.bytes.now c.args.from _ _ (passed_none c.args.bytes.now c.args.from _ c.new.ensures.bytes c.new.ensures.at)
+    (λ q x h. search rules) (λ q e. search rules)
 
 pub returns : goal.returns
 returns c =
-    let w = c.loop-place.invariant in
-    ap accepted w.counted ∙ sym (ap (mapped length) (passed_end w c.in-None.ensures.steps.1))
+    let (items, o, f, n, (t, y, step), folds, last) = c.try_fold.ensures.ran in
+    let w = passes _ (λ p q x t. search rules) (λ p q e t. search rules) c.args.bytes.now c.args.from items c.new.result t (_, 0) (f, n) (passed_none c.args.bytes.now c.args.from _ c.new.ensures.bytes c.new.ensures.at) y folds in
+    ended _ c.args.bytes.now c.args.from n c.try_fold.result o t c.try_fold.new.self w step (λ d. search rules) (λ x m. search rules) (λ e m. search rules) last

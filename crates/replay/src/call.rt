@@ -128,11 +128,7 @@ impl<'a> Call<'a> {
         let tags = self.list();
         let starts = self.list();
         let lengths = self.list();
-        let mut rows = [Place {
-            tag: 0,
-            start: 0,
-            length: 0,
-        }; 64];
+        let mut rows = [Place::default(); 64];
         let columns = tags.iter().zip(starts).zip(lengths);
         for (row, ((&tag, &start), &length)) in rows.iter_mut().zip(columns) {
             *row = Place {

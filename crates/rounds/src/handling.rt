@@ -4,6 +4,13 @@ use message::SuaMessage;
 use parameter::Place;
 use parameter::table::Records;
 
+// A row that nothing is stored in yet.
+pub(crate) const EMPTY: Place = Place {
+    tag: 0,
+    start: 0,
+    length: 0,
+};
+
 // How the handling fields are read.
 #[derive(Clone, Copy)]
 pub(crate) enum Work {
@@ -35,11 +42,7 @@ impl<'a> Lent<'a> {
 
 // All seven, each by its accessor.
 fn seven(sum: Sum, m: SuaMessage, lent: Records) -> Sum {
-    let mut others = [Place {
-        tag: 0,
-        start: 0,
-        length: 0,
-    }; 2];
+    let mut others = [EMPTY; 2];
     let first = sum
         .add(&m.routing_context(lent))
         .add(&m.protocol_class(lent))
@@ -52,11 +55,7 @@ fn seven(sum: Sum, m: SuaMessage, lent: Records) -> Sum {
 
 // All seven by the one walk.
 fn screen(sum: Sum, m: SuaMessage, lent: Records) -> Sum {
-    let mut sources = [Place {
-        tag: 0,
-        start: 0,
-        length: 0,
-    }; 2];
+    let mut sources = [EMPTY; 2];
     let mut destinations = sources;
     sum.add(&m.screen(lent, &mut sources, &mut destinations))
 }

@@ -9,8 +9,6 @@ mod handling;
 mod sums;
 mod titles;
 
-use parameter::Place;
-
 // What is done in each round.
 #[derive(Clone, Copy)]
 enum Work {
@@ -41,11 +39,7 @@ const STDOUT: i32 = 1;
 fn main() {
     let mut order = [0u8; 5];
     let mut octets = [0u8; 8192];
-    let mut rows = [Place {
-        tag: 0,
-        start: 0,
-        length: 0,
-    }; 1001];
+    let mut rows = [handling::EMPTY; 1001];
     io::read_full(STDIN, &mut order);
     let n = io::read_full(STDIN, &mut octets);
     let [number, a, b, c, d] = order;

@@ -16,13 +16,11 @@ pub(crate) enum Work {
     Nothing,
 }
 
-// The value of a refusal: the octet that is no digit, or how long the output is to be.
+// The first value of a refusal; 0 where it has none.
 fn value(refusal: Refusal) -> u64 {
-    match refusal {
-        Refusal::InvalidBcdDigit(octet) => u64::from(octet),
-        Refusal::OutputTooSmall(length) => length as u64,
-        _ => 0,
-    }
+    let mut numbers = [0u64; 4];
+    report::store(Err(refusal), &mut numbers);
+    numbers[1]
 }
 
 // The answer of a round, and an octet of the output, of a place that is another in each round; 0 behind its end.

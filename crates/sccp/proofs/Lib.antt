@@ -6,6 +6,7 @@ pub mod Writing
 pub mod Digits
 pub mod Parts
 pub mod Parties
+pub mod Taking
 pub mod Values
 pub mod Back
 pub mod Exactly

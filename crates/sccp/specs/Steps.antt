@@ -1,6 +1,6 @@
 -- Steps of the code between its public calls. No public contract of this crate cites these.
 use denote.Ref.{Bor}
-use Rattle.std.specs.Prelude.{ℕ, ◌+◌, ◌&&◌, Bool, List, [], ◌++◌, eqb, length, get_or, take}
+use Rattle.std.specs.Prelude.{ℕ, ◌+◌, ◌&&◌, Bool, true, false, List, [], ◌++◌, leb, eqb, length, get_or, take, drop}
 use Rattle.std.specs.Prelude.{Option, None, Some, option_map, is_some}
 use Rattle.bcd.specs.Outcome.{Outcome, accepted, pick, demand, each}
 use Rattle.bcd.specs.Digits.{halves, pack, built_in, digits_in}
@@ -30,8 +30,13 @@ abbrev pub address_from : Common → Address
 address_from p = with_parts (pick p.on_title 1 2) p.point_code p.ssn (option_map title_from p.title)
 
 -- A part that was read, and the octets behind it.
-abbrev pub behind : Option ℕ × Bor (List ℕ) → Option ℕ × List ℕ
+abbrev pub behind : Option (List ℕ) × Bor (List ℕ) → Option (List ℕ) × List ℕ
 behind p = (p.0, p.1.now)
+
+-- The octets of a part of n octets, if it is there, and those behind it. 18 where fewer are left.
+abbrev pub taken : (n : ℕ) → (there : Bool) → List ℕ → Outcome (Option (List ℕ) × List ℕ)
+taken n false xs = accepted (None, xs)
+taken n true xs = demand (leb n (length xs)) 18 [] (accepted (Some (take n xs), drop n xs))
 
 -- What an address needs to convert, but for its title and its point code: by the parts of an address value that was read.
 abbrev pub plain_parts : List ℕ → Parts → Bool

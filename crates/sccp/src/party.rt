@@ -1,43 +1,26 @@
 // Party addresses of SCCP, read and written (ITU-T Q.713, 3.4).
-ghost use Rattle.std.specs.Prelude.{◌≡◌, ◌≤◌, [], length, option_map, unwrap_or, is_some, IfOk};
+ghost use Rattle.std.specs.Prelude.{◌≡◌, ◌≤◌, [], length, option_map, unwrap_or, is_some};
 ghost use Rattle.bcd.specs.Outcome.{accepted, pick, mapped, bounded, delivered, deliver};
 ghost use Rattle.bcd.specs.Answers.{outcome_of};
-ghost use Rattle.sccp.specs.Sccp.{code_in, sub_in, digit_count, digits_of, title_in, title_by, sccp_in};
+ghost use Rattle.sccp.specs.Sccp.{digit_count, digits_of, title_in, title_by, sccp_in};
 ghost use Rattle.sccp.specs.Sccp.{title_octets, indicator, sccp_octets};
-ghost use Rattle.sccp.specs.Steps.{digits_from, title_from, address_from, behind, title_length, party_length};
+ghost use Rattle.sccp.specs.Steps.{digits_from, title_from, address_from, behind, taken, title_length, party_length};
 
 use crate::common::{Common, Digits, Title};
 use bcd::error::Refusal;
 use bcd::half_in;
 
-// The point code, if it is there, and the octets behind it; its low octet comes first (Q.713, 3.4.2.1). 18.
-fn code_in(there: bool, octets: &[u8]) -> Result<(Option<u16>, &[u8]), Refusal>
-    ensures few { IfOk result (λ read. unwrap_or read.0 0 ≤ 16383) }
-    ensures read { mapped behind (outcome_of result) ≡ code_in there octets.now }
+// The octets of a part, if it is there, and those behind it. 18.
+fn taken<const N: usize>(there: bool, octets: &[u8]) -> Result<(Option<[u8; N]>, &[u8]), Refusal>
+    ensures { mapped behind (outcome_of result) ≡ taken N there octets.now }
 {
     if !there {
         return Ok((None, octets));
     }
-    let [low, high, rest @ ..] = octets else {
-        return Err(Refusal::InvalidSccpAddress);
-    };
-    if 63 < *high {
-        return Err(Refusal::InvalidSccpAddress);
-    }
-    Ok((Some(u16::from_le_bytes([*low, *high])), rest))
-}
-
-// The SSN, if it is there, and the octets behind it (Q.713, 3.4.2.2). 18.
-fn ssn_in(there: bool, octets: &[u8]) -> Result<(Option<u8>, &[u8]), Refusal>
-    ensures { mapped behind (outcome_of result) ≡ sub_in there octets.now }
-{
-    if !there {
-        return Ok((None, octets));
-    }
-    let [ssn, rest @ ..] = octets else {
-        return Err(Refusal::InvalidSccpAddress);
-    };
-    Ok((Some(*ssn), rest))
+    let (part, rest) = octets
+        .split_first_chunk()
+        .ok_or(Refusal::InvalidSccpAddress)?;
+    Ok((Some(*part), rest))
 }
 
 // How many digits stand in octets, by their encoding scheme (Q.713, 3.4.2.3.4). 18.
@@ -103,13 +86,18 @@ fn address_in(octets: &[u8]) -> Result<Common<'_>, Refusal>
     if 127 < *indicator {
         return Err(Refusal::InvalidSccpAddress);
     }
-    let (point_code, rest) = code_in(*indicator % 2 == 1, rest)?;
-    let (ssn, rest) = ssn_in(*indicator / 2 % 2 == 1, rest)?;
+    let (code, rest) = taken(*indicator % 2 == 1, rest)?;
+    // A point code has 14 bits, and its low octet comes first (Q.713, 3.4.2.1).
+    let point_code = code.map(u16::from_le_bytes);
+    if 16383 < point_code.unwrap_or(0) {
+        return Err(Refusal::InvalidSccpAddress);
+    }
+    let (ssn, rest) = taken(*indicator / 2 % 2 == 1, rest)?;
     let title = title_by(*indicator / 4 % 16, rest)?;
     Ok(Common {
         on_title: *indicator / 64 % 2 == 0,
         point_code,
-        ssn,
+        ssn: ssn.map(u8::from_be_bytes),
         title,
     })
 }
@@ -185,7 +173,7 @@ pub(crate) fn write(address: Common<'_>, out: &mut [u8]) -> Result<usize, Refusa
         return Err(Refusal::OutputTooSmall(length));
     }
     out[0] = indicator(address);
-    // The low octet of the point code comes first (Q.713, 3.4.2.1).
+    // The low octet of a point code comes first (Q.713, 3.4.2.1).
     let ssn_place = 1 + put(address.point_code.map(u16::to_le_bytes), &mut out[1..]);
     let title_place = ssn_place + put(address.ssn.map(u8::to_be_bytes), &mut out[ssn_place..]);
     Ok(title_place + put_title(address.title, &mut out[title_place..]))

@@ -14,7 +14,7 @@ ghost use Rattle.address.specs.Steps.Plan.{digits_by, PlanOf};
 
 use crate::RoutingIndicator;
 use crate::parts::{Parts, survey};
-use bcd::error::Refusal;
+use bcd::error::{Refusal, within};
 use parameter::{Place, tags};
 
 // Whether the digits of a title are looked at, and refused where one cannot be written, or taken to be digits that can be.
@@ -156,9 +156,7 @@ pub fn interpret(value: &[u8]) -> Result<Interpreted<'_>, Refusal>
     ensures value { (i : Interpreted) → result ≡ Ok i → i.value.now ≡ value.entry.now }
 {
     let n = value.len();
-    if 1048576 < n {
-        return Err(Refusal::TooManyOctets(n));
-    }
+    within(n)?;
     if n < 4 {
         return Err(Refusal::TooShort {
             expected: 4,

@@ -8,7 +8,7 @@ ghost use Rattle.address.specs.Records.{title_given};
 ghost use Rattle.address.specs.Titles.{record_of};
 
 use crate::GlobalTitle;
-use bcd::error::Refusal;
+use bcd::error::{Refusal, within};
 
 impl GlobalTitle {
     // Reads a title from the value of its sub-parameter. 12, 1.
@@ -16,9 +16,7 @@ impl GlobalTitle {
         ensures { outcome_of result ≡ mapped record_of (read_title built_in value.now) }
     {
         let n = value.len();
-        if 1048576 < n {
-            return Err(Refusal::TooManyOctets(n));
-        }
+        within(n)?;
         if n < GlobalTitle::HEADER_SIZE {
             return Err(Refusal::TooShort {
                 expected: GlobalTitle::HEADER_SIZE,

@@ -8,7 +8,7 @@ use Rattle.std.specs.Prelude.{None}
 use Rattle.bcd.specs.Outcome.{refused, accepted, bounded, mapped, Octets, most}
 use Rattle.bcd.specs.Digits.{built_in}
 use Rattle.bcd.proofs.Outcomes.{octets-of, bounded-within}
-use Rattle.bcd.proofs.Results.{exit}
+use Rattle.bcd.proofs.Results.{exit, few_octets, many_octets}
 use Rattle.parameter.specs.Parameter.{two_at}
 use Rattle.parameter.specs.Walk.{places}
 use Rattle.address.specs.Address.{routing_in}
@@ -43,19 +43,23 @@ whole :
     → accepted s ≡ interpreted v
 whole v s o within long routing e none = read-interpreted (record { known = known v s o within long routing e; whole = none })
 
-pub returns-then-n-gt1048576-clause-parts : goal.returns-then-n-gt1048576-clause-parts
-returns-then-n-gt1048576-clause-parts c = let v = c.args.value.now in refused_interpreted v _ _ (read_beyond built_in v c.if-n-gt1048576.true)
+pub returns-in_err-within-clause-parts : goal.returns-in_err-within-clause-parts
+returns-in_err-within-clause-parts c =
+    let v = c.args.value.now in
+    let (h, a, b) = many_octets tt _ _ c.in_err-within.ensures in
+    ap (mapped (λ (i : Interpreted). i.parts)) (exit c.from_residual.result _ c.from_residual.ensures.1)
+    ∙ rw (a, b) (refused_interpreted v _ _ (read_beyond built_in v h))
 
 pub returns-then-n-lt4-clause-parts : goal.returns-then-n-lt4-clause-parts
-returns-then-n-lt4-clause-parts c = let v = c.args.value.now in refused_interpreted v _ _ (read_few built_in v c.if-n-gt1048576.false c.if-n-lt4.true)
+returns-then-n-lt4-clause-parts c = let v = c.args.value.now in refused_interpreted v _ _ (read_few built_in v (few_octets c.in_ok-within.ensures) c.if-n-lt4.true)
 
 pub returns-in_err-routing-clause-parts : goal.returns-in_err-routing-clause-parts
 unfolding two_at
 returns-in_err-routing-clause-parts c =
     let v = c.args.value.now in
     let routing : c.from_be_bytes.result ≡ two_at v 0 = omega (arith, c.from_be_bytes.ensures) in
-    ap (mapped (λ (i : Interpreted). i.parts)) (exit c.from_residual.result _ c.from_residual.ensures.1)
-    ∙ refused_interpreted v _ _ (read_unrouted built_in v c.if-n-gt1048576.false c.if-n-lt4.false _ _ (c.in_err-routing.ensures ∙ ap routing_in routing))
+    ap (mapped (λ (i : Interpreted). i.parts)) (exit c.from_residual-in_err-routing.result _ c.from_residual-in_err-routing.ensures.1)
+    ∙ refused_interpreted v _ _ (read_unrouted built_in v (few_octets c.in_ok-within.ensures) c.if-n-lt4.false _ _ (c.in_err-routing.ensures ∙ ap routing_in routing))
 
 pub returns-in_err-parts-clause-parts : goal.returns-in_err-parts-clause-parts
 unfolding two_at
@@ -65,15 +69,15 @@ returns-in_err-parts-clause-parts c =
     let small = routed (two_at v 0) (c.in_ok-routing.ensures ∙ ap routing_in routing) in
     ap (mapped (λ (i : Interpreted). i.parts)) (exit c.from_residual-in_err-parts.result _ c.from_residual-in_err-parts.ensures.1)
     ∙ refused_interpreted v _ _
-    (read_unwalked built_in v c.if-n-gt1048576.false c.if-n-lt4.false _ _ small
-    (mapped_refused (note_all nothing) _ (c.in_err-parts.ensures ∙ bounded-within v _ c.if-n-gt1048576.false)))
+    (read_unwalked built_in v (few_octets c.in_ok-within.ensures) c.if-n-lt4.false _ _ small
+    (mapped_refused (note_all nothing) _ (c.in_err-parts.ensures ∙ bounded-within v _ (few_octets c.in_ok-within.ensures))))
 
 pub returns-in-Some-clause-parts : goal.returns-in-Some-clause-parts
 unfolding two_at
 returns-in-Some-clause-parts c =
     let v = c.args.value.now in
     let routing : c.from_be_bytes.result ≡ two_at v 0 = omega (arith, c.from_be_bytes.ensures) in
-    let k = known v c.in_ok-parts.parts (octets-of v (λ i. (c.type_inv.value i).fits)) c.if-n-gt1048576.false c.if-n-lt4.false
+    let k = known v c.in_ok-parts.parts (octets-of v (λ i. (c.type_inv.value i).fits)) (few_octets c.in_ok-within.ensures) c.if-n-lt4.false
     (c.in_ok-routing.ensures ∙ ap routing_in routing) c.in_ok-parts.ensures in
     refused_interpreted v _ _ (read_short k c.in-Some.short c.in-Some.is ∙ ap (λ (n : ℕ × List ℕ). refused n.0 n.1) (sym c.too_short.ensures))
 
@@ -84,10 +88,10 @@ invariant_of-result c =
     let routing : c.from_be_bytes.result ≡ two_at v 0 = omega (arith, c.from_be_bytes.ensures) in
     record {
       long = c.if-n-lt4.false;
-      within = c.if-n-gt1048576.false;
+      within = (few_octets c.in_ok-within.ensures);
       fits = λ i. (c.type_inv.value i).fits;
       routed = c.in_ok-routing.ensures ∙ ap routing_in routing;
-      read = whole v c.in_ok-parts.parts (octets-of v (λ i. (c.type_inv.value i).fits)) c.if-n-gt1048576.false c.if-n-lt4.false
+      read = whole v c.in_ok-parts.parts (octets-of v (λ i. (c.type_inv.value i).fits)) (few_octets c.in_ok-within.ensures) c.if-n-lt4.false
           (c.in_ok-routing.ensures ∙ ap routing_in routing) c.in_ok-parts.ensures c.in_default.is;
     }
 
@@ -96,5 +100,5 @@ unfolding two_at
 returns-clause-parts c =
     let v = c.args.value.now in
     let routing : c.from_be_bytes.result ≡ two_at v 0 = omega (arith, c.from_be_bytes.ensures) in
-    whole v c.in_ok-parts.parts (octets-of v (λ i. (c.type_inv.value i).fits)) c.if-n-gt1048576.false c.if-n-lt4.false
+    whole v c.in_ok-parts.parts (octets-of v (λ i. (c.type_inv.value i).fits)) (few_octets c.in_ok-within.ensures) c.if-n-lt4.false
     (c.in_ok-routing.ensures ∙ ap routing_in routing) c.in_ok-parts.ensures c.in_default.is

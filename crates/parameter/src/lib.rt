@@ -15,7 +15,7 @@ ghost use Rattle.parameter.specs.Walk.{step_at, decode_param, valued};
 ghost use Rattle.parameter.specs.Answers.{step_of, one_of};
 ghost use Rattle.parameter.specs.Items.{Gives, Left};
 
-use bcd::error::Refusal;
+use bcd::error::{Refusal, within};
 
 // A parameter's tag, and where its value starts and how long it is in the octets given.
 #[derive(Clone, Copy, Debug, Default, PartialEq, Eq)]
@@ -64,9 +64,7 @@ impl Cursor {
     {
         let at = self.at;
         let n = bytes.len();
-        if 1048576 < n {
-            return Err(Refusal::TooManyOctets(n));
-        }
+        within(n)?;
         let left = n.saturating_sub(at);
         if left < 4 {
             return Ok(None);
@@ -165,9 +163,7 @@ pub fn as_u32(value: &[u8]) -> Result<Option<u32>, Refusal>
     ensures { outcome_of result ≡ bounded value.now (accepted (number_in value.now)) }
 {
     let n = value.len();
-    if 1048576 < n {
-        return Err(Refusal::TooManyOctets(n));
-    }
+    within(n)?;
     Ok(value.first_chunk().map(|first| u32::from_be_bytes(*first)))
 }
 

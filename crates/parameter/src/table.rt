@@ -8,7 +8,7 @@ ghost use Rattle.parameter.specs.Walk.{places, valued};
 ghost use Rattle.parameter.specs.Table.{tabulated, tabulate, records, find_param};
 
 use crate::{Parameters, Place, put, wire_length};
-use bcd::error::Refusal;
+use bcd::error::{Refusal, within};
 
 // How many parameters there are from a position on. 12, then 5 or 6.
 pub fn count(bytes: &[u8], from: usize) -> Result<usize, Refusal>
@@ -126,9 +126,7 @@ impl<'a> Records<'a> {
             out.old }
     {
         let n = self.parameters_length(count)?;
-        if 1048576 < n {
-            return Err(Refusal::TooManyOctets(n));
-        }
+        within(n)?;
         if out.len() < n {
             return Err(Refusal::OutputTooSmall(n));
         }

@@ -10,7 +10,8 @@ use lib.Seq.{get_or-take}
 use Rattle.std.specs.Prelude.{Option, None, Some, MatchOption, IsSomeAnd}
 use Rattle.std.specs.Array.{IsFirstChunk}
 use Rattle.bcd.specs.Outcome.{accepted}
-use Rattle.bcd.proofs.Outcomes.{bounded-within}
+use Rattle.bcd.proofs.Outcomes.{bounded-within, bounded_beyond}
+use Rattle.bcd.proofs.Results.{exit, few_octets, many_octets}
 use Rattle.parameter.specs.Parameter.{two_at, number_in}
 use Rattle.parameter.proofs.Encoding.{number_short, number-four}
 use Rattle.parameter.proofs.as_u32.Goals as goal
@@ -35,8 +36,13 @@ of_chunk v None n told h e = e ∙ sym (number_short v h)
 of_chunk v (Some x) None told h e = absurd e
 of_chunk v (Some x) (Some n) told h e = number_of v x.now h n (told x n e)
 
+pub returns-in_err-within : goal.returns-in_err-within
+returns-in_err-within c =
+    let (h, a, b) = many_octets tt _ _ c.in_err-within.ensures in
+    rw (exit c.from_residual.result _ c.from_residual.ensures.1, a, b) (sym (bounded_beyond c.args.value.now (accepted (number_in c.args.value.now)) h))
+
 pub returns : goal.returns
 returns c =
     let v = c.args.value.now in
     ap accepted (of_chunk v c.first_chunk.result c.map.result (λ x r p. search rules) c.first_chunk.ensures.cases c.map.ensures.cases)
-    ∙ sym (bounded-within v (accepted (number_in v)) c.if-n-gt1048576.false)
+    ∙ sym (bounded-within v (accepted (number_in v)) (few_octets c.in_ok-within.ensures))

@@ -6,8 +6,8 @@ use native.Mathlib.Omega.{arith}
 use borrow.Author.Tests.{le-leb, eq-eqb}
 use lib.ListN.{length, get_or, drop}
 use lib.Seq.{get_or-drop}
-use Rattle.bcd.specs.Outcome.{mapped, most}
-use Rattle.bcd.proofs.Outcomes.{bounded-within}
+use Rattle.bcd.specs.Outcome.{mapped, refused, most}
+use Rattle.bcd.proofs.Outcomes.{bounded-within, bounded_beyond}
 use Rattle.parameter.specs.Parameter.{two_at, four_in}
 use Rattle.message.specs.declared.header.CommonHeader.{CommonHeader}
 use Rattle.message.specs.Types.{class_of, type_of, from_class_type}
@@ -21,6 +21,11 @@ unfolding two_at
 four-there xs at =
     let z : at + 0 ≡ at = omega arith in
     rw (get_or-drop at xs 0 0, get_or-drop at xs 1 0, get_or-drop at xs 2 0, get_or-drop at xs 3 0, z) (omega arith)
+
+-- A header in front of too many octets.
+pub header_beyond : (xs : List ℕ) → most < length xs → read_header xs ≡ refused 12 (length xs ∷ [])
+unfolding read_header
+header_beyond xs h = bounded_beyond xs _ h
 
 -- A header that names a type, read.
 pub header_typed :

@@ -5,7 +5,7 @@ ghost use Rattle.bcd.specs.Answers.{outcome_of};
 ghost use Rattle.message.specs.Message.{header_with, read_header, write_header, whole_length, headed};
 
 use crate::types::MessageType;
-use bcd::error::Refusal;
+use bcd::error::{Refusal, within};
 
 // The version of SUA (RFC 3868, 3.1.1).
 pub const VERSION: u8 = 1;
@@ -39,9 +39,7 @@ impl CommonHeader {
         ensures { outcome_of result ≡ read_header bytes.now }
     {
         let given = bytes.len();
-        if 1048576 < given {
-            return Err(Refusal::TooManyOctets(given));
-        }
+        within(given)?;
         if given < Self::SIZE {
             return Err(Refusal::TooShort {
                 expected: Self::SIZE,
@@ -79,9 +77,7 @@ pub fn put_header(message_type: MessageType, run: usize, out: &mut [u8]) -> Resu
         ≡ headed message_type (whole_length run (length out.old)) out.old }
 {
     let total = CommonHeader::SIZE.saturating_add(run);
-    if 1048576 < total {
-        return Err(Refusal::TooManyOctets(total));
-    }
+    within(total)?;
     if out.len() < total {
         return Err(Refusal::OutputTooSmall(total));
     }

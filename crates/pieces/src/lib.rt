@@ -12,7 +12,7 @@ ghost use Rattle.pieces.specs.Parts.{number, part_written, run_written, Placeabl
 
 use address::SuaAddress;
 use address::encode::encoded_length;
-use bcd::error::Refusal;
+use bcd::error::{Refusal, within};
 use parameter::table::Records;
 use parameter::tags::{AFFECTED_POINT_CODE, DESTINATION_ADDRESS, SOURCE_ADDRESS};
 use parameter::{encode, frame, wire_length};
@@ -122,9 +122,7 @@ pub fn write_run(parts: &[Option<Part<'_>>], out: &mut [u8]) -> Result<usize, Re
         ≡ deliver (after (run_written parts.now) writable) out.old }
 {
     let total = run_length(parts)?;
-    if 1048576 < total {
-        return Err(Refusal::TooManyOctets(total));
-    }
+    within(total)?;
     if out.len() < total {
         return Err(Refusal::OutputTooSmall(total));
     }

@@ -4,7 +4,7 @@ ghost use Rattle.bcd.specs.Outcome.{accepted, delivered, deliver};
 ghost use Rattle.bcd.specs.Answers.{outcome_of};
 ghost use Rattle.pieces.specs.PointCodes.{pack_codes, codes_in, unpack_codes, store_codes};
 
-use bcd::error::Refusal;
+use bcd::error::{Refusal, within};
 use parameter::tags::AFFECTED_POINT_CODE;
 
 // The most codes that one parameter holds.
@@ -52,8 +52,6 @@ pub fn unpack_affected_point_codes(value: &[u8], out: &mut [u32]) -> Result<usiz
     ensures { delivered (outcome_of result) out.new ≡ store_codes (unpack_codes value.now) out.old }
 {
     let given = value.len();
-    if 1048576 < given {
-        return Err(Refusal::TooManyOctets(given));
-    }
+    within(given)?;
     list_codes(value, out)
 }

@@ -7,7 +7,7 @@ ghost use Rattle.sccp.specs.Sccp.{title_octets, indicator, sccp_octets};
 ghost use Rattle.sccp.specs.Steps.{digits_from, title_from, address_from, behind, taken, title_length, party_length};
 
 use crate::common::{Common, Digits, Title};
-use bcd::error::Refusal;
+use bcd::error::{Refusal, within};
 use bcd::half_in;
 
 // The octets of a part, if it is there, and those behind it. 18.
@@ -106,10 +106,7 @@ fn address_in(octets: &[u8]) -> Result<Common<'_>, Refusal>
 pub(crate) fn read(octets: &[u8]) -> Result<Common<'_>, Refusal>
     ensures { mapped address_from (outcome_of result) ≡ bounded octets.now (sccp_in octets.now) }
 {
-    let n = octets.len();
-    if 1048576 < n {
-        return Err(Refusal::TooManyOctets(n));
-    }
+    within(octets.len())?;
     address_in(octets)
 }
 

@@ -209,7 +209,7 @@ pub header_room : (h : CommonHeader) (out : List ℕ) {d : List ℕ} {n : ℕ} {
 unfolding write_header
 header_room h out room head = never (deliver_answer (header_octets h) out room head)
 
--- A message of too many octets, and one that there is no room for.
+-- A message of too many octets.
 pub header_large :
     (m : MessageType) (run total : ℕ) (out : List ℕ)
     → total ≡ fit64 (8 + run)
@@ -217,16 +217,6 @@ pub header_large :
     → delivered (refused 12 (total ∷ [])) out ≡ headed m (whole_length run (length out)) out
 header_large m run total out t h =
     ap (λ (n : ℕ). delivered (refused 12 (n ∷ [])) out) t ∙ sym (ap (λ w. headed m w out) (whole_large run (length out) (omega (arith, t, h))))
-
-pub header_short :
-    (m : MessageType) (run total : ℕ) (out : List ℕ)
-    → total ≡ fit64 (8 + run)
-    → total ≤ most
-    → length out < total
-    → delivered (refused 14 (total ∷ [])) out ≡ headed m (whole_length run (length out)) out
-header_short m run total out t small h =
-    ap (λ (n : ℕ). delivered (refused 14 (n ∷ [])) out) t
-    ∙ sym (ap (λ w. headed m w out) (whole_beyond run (length out) (omega (arith, t, small)) (omega (arith, t, h))))
 
 -- The header written is the definition's.
 pub header_put :

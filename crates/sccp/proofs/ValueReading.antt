@@ -1,10 +1,11 @@
 -- An address value that was read, by the parts that the walk keeps: whether it converts, and what it tells.
-use Prim.Native.Nat.{ℕ, ◌+◌, ◌*◌}
+use Prim.Native.Nat.{ℕ}
 use mathlib.Core.Path.{◌≡◌, refl, sym, ap, ◌∙◌}
 use mathlib.Core.Bool.{Bool, true, false, ◌&&◌}
 use mathlib.Core.List.{List, [], ◌∷◌, map}
 use native.Mathlib.Omega.{arith}
-use borrow.Author.Tests.{ne_eqb, eq-eqb, eqb-true}
+use borrow.Author.Tests.{ne_eqb}
+use denote.Enum.Bare.{sameb}
 use lib.Dec.{leb, eqb}
 use lib.ListN.{length, get_or, length-map}
 use Rattle.std.specs.Prelude.{Option, is_some}
@@ -18,6 +19,10 @@ use Rattle.parameter.specs.Parameter.{Param, two_at}
 use Rattle.parameter.specs.Walk.{valued}
 use Rattle.address.specs.Address as Sua
 use Rattle.address.specs.Address.{Address, address_with, bit, routing_in, read_address}
+use Rattle.address.specs.Records.{routing_value}
+use Rattle.address.specs.declared.RoutingIndicator.{RoutingIndicator}
+use Rattle.address.specs.declared.RoutingIndicator.TheVariants as I
+use Rattle.address.specs.contracts.RoutingIndicator.{the_type}
 use Rattle.address.specs.Listing.{other_places}
 use Rattle.address.specs.Parts.{kept_title, kept_code, kept_sub}
 use Rattle.address.specs.Steps.Plan.{Read}
@@ -63,16 +68,15 @@ pub routed_as : (n m : ℕ) → accepted n ≡ routing_in m → m ≡ n
 routed_as n m e = let (t, same) = demand_inv (leb m 4) 8 (m ∷ []) (accepted m) (sym e) in accepted_inj same
 
 -- The routing by the code's test.
-routing_told : (v : List ℕ) → routes (two_at v 0) ≡ true → pick (eqb (get_or v 1 0) 1) 1 2 ≡ two_at v 0
-unfolding two_at
-routing_told v e = go (eqb n 1) refl e
-  where
-    n : ℕ
-    n = get_or v 0 0 * 256 + get_or v 1 0
+abbrev pub on_title : RoutingIndicator → Bool
+on_title i = sameb the_type i I.RouteOnGlobalTitle
 
-    go : (b : Bool) → eqb n 1 ≡ b → pick b true (eqb n 2) ≡ true → pick (eqb (get_or v 1 0) 1) 1 2 ≡ n
-    go true h f = let z = eqb-true n 1 h in rw (eq-eqb (get_or v 1 0) 1 (omega arith)) (sym z)
-    go false h f = let z = eqb-true n 2 f in rw (ne_eqb (get_or v 1 0) 1 (λ g. omega arith)) (sym z)
+routing_told : (i : RoutingIndicator) → routes (routing_value i) ≡ true → pick (on_title i) 1 2 ≡ routing_value i
+routing_told I.Reserved e = let z : ◌≡◌ {A = ℕ} 0 1 = cc in absurd (omega arith)
+routing_told I.RouteOnGlobalTitle e = refl
+routing_told I.RouteOnSsnAndPc e = refl
+routing_told I.RouteOnHostname e = let z : ◌≡◌ {A = ℕ} 0 1 = cc in absurd (omega arith)
+routing_told I.RouteOnSsnAndIp e = let z : ◌≡◌ {A = ℕ} 0 1 = cc in absurd (omega arith)
 
 -- What converts is itself.
 pub convertible_inv : {X : Type 0} (test : X → Bool) (x y : X) → accepted y ≡ convertible test x → (test x ≡ true) × (x ≡ y)
@@ -146,14 +150,16 @@ module _ {v : List ℕ} {s : Parts} (r : Read v s) where
           refused_part x (absent_or code_small (kept_code v s.code)) _ kept e ∙ sym (answer_fits ∙ ap (λ (t : Bool). demand (t && absent_or code_small (kept_code v s.code)) 17 [] (accepted kept)) t)
 
       pub converted :
-          {code sub : Option ℕ}
+          {code sub : Option ℕ} (i : RoutingIndicator)
+          → accepted (routing_value i) ≡ routing_in (two_at v 0)
           → accepted code ≡ convertible (absent_or code_small) (kept_code v s.code)
           → sub ≡ kept_sub v s.ssn
-          → accepted (with_parts (pick (eqb (get_or v 1 0) 1) 1 2) code sub title) ≡ after (read_address built_in v) (convertible converts)
-      converted {code} {sub} coded subbed =
+          → accepted (with_parts (pick (on_title i) 1 2) code sub title) ≡ after (read_address built_in v) (convertible converts)
+      converted {code} {sub} i routed coded subbed =
           let t = convertible_inv (absent_or title_converts) (kept_title built_in v s.title) title titled in
           let c = convertible_inv (absent_or code_small) (kept_code v s.code) code coded in
           let p = passes kept (rw (converts_by, plain, t.0, c.0)) in
-          let same : with_parts (pick (eqb (get_or v 1 0) 1) 1 2) code sub title ≡ kept =
-          rw (routing_told v p.routing, ← c.1, subbed, ← t.1) (whole kept p) in
+          let n = routed_as (routing_value i) (two_at v 0) routed in
+          let same : with_parts (pick (on_title i) 1 2) code sub title ≡ kept =
+          rw (routing_told i (rw n at p.routing), ← n, ← c.1, subbed, ← t.1) (whole kept p) in
           ap accepted same ∙ sym (rw (answer_fits, t.0, c.0))

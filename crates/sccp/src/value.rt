@@ -92,7 +92,7 @@ pub(crate) fn read(value: &[u8]) -> Result<Common<'_>, Refusal>
         return Err(Refusal::UnconvertibleAddress);
     }
     Ok(Common {
-        on_title: value[1] == 1,
+        on_title: address.routing == RoutingIndicator::RouteOnGlobalTitle,
         title: title_in(address)?,
         point_code: code_in(address)?,
         ssn: address.ssn(),

@@ -36,5 +36,5 @@ returns-in_err-code_in c =
 pub returns : goal.returns
 returns c =
     let a = c.in_ok-address.address in
-    rw (← c.in_ok-address.ensures.value a refl)
-    (converted (read-of a) (sym c.plain.ensures ∙ c.if-not-plain.false) c.in_ok-title_in.ensures c.in_ok-code_in.ensures c.ssn.ensures)
+    rw (← c.in_ok-address.ensures.value a refl, c.eq.ensures)
+    (converted (read-of a) (sym c.plain.ensures ∙ c.if-not-plain.false) c.in_ok-title_in.ensures a.routing a.routed c.in_ok-code_in.ensures c.ssn.ensures)

@@ -24,10 +24,7 @@ pub struct Parts {
 fn first_short(short: Option<Place>, place: Place, least: usize) -> Option<Place>
     ensures { result ≡ sooner short place least }
 {
-    if short.is_none() && place.length < least {
-        return Some(place);
-    }
-    short
+    short.or((place.length < least).then_some(place))
 }
 
 impl Parts {

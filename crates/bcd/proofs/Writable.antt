@@ -11,7 +11,7 @@ use lib.Dec.{leb}
 use borrow.Author.Tests.{le-leb, lt-leb}
 use Rattle.bcd.specs.Outcome.{Outcome, accepted, refused, mapped, each, All}
 use Rattle.bcd.specs.Digits.{Alphabet, Lawful, pack, written, write_digits}
-use Rattle.bcd.specs.Steps.{nibble}
+use Rattle.bcd.specs.Steps.{nibble, Packed}
 use Rattle.bcd.proofs.Outcomes.{accepted_inj, never, mapped_inv, demand_inv, each_inv, each_more, each_stopped}
 use Rattle.bcd.proofs.Halves.{pack-length}
 
@@ -70,6 +70,16 @@ checked_all A cs i so_far h small = all_good A cs _ small (rw (take_all i cs h) 
 
 pub packed-length : (A : Alphabet) (cs : List ℕ) → length (pack (map (nibble A) cs)) ≡ (length cs + 1) / 2
 packed-length A cs = rw (pack-length (map (nibble A) cs), length-map cs (nibble A))
+
+-- digits that were packed: a refusal, and octets that stand in front of a buffer
+pub packed_bad : {A : Alphabet} {cs d : List ℕ} {n : ℕ} {vs : List ℕ} → write_digits A cs ≡ refused n vs → Packed A cs (refused n vs) d
+packed_bad e = record { counted = sym (ap (mapped length) e); octets = sym e }
+
+pub packed_good : {A : Alphabet} {cs os d : List ℕ} (n : ℕ) → write_digits A cs ≡ accepted os → length os ≡ n → take n d ≡ os → Packed A cs (accepted n) d
+packed_good n e l t = record { counted = ap accepted (sym l) ∙ sym (ap (mapped length) e); octets = ap accepted t ∙ sym e }
+
+pub packed_count : {A : Alphabet} {cs d : List ℕ} {n : ℕ} → Packed A cs (accepted n) d → length (take n d) ≡ n
+packed_count p = accepted_inj (ap (mapped length) p.octets ∙ sym p.counted)
 
 -- what digits that are written tell of themselves
 pub record Good (A : Alphabet) (cs : List ℕ) (n : ℕ) : Type 0 where

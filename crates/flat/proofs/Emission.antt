@@ -59,6 +59,20 @@ writes_begun {a} {b} {os} x z h =
     let none : take a.at a.out.now ≡ [] = rw z refl in
     rw none at (begun x (omega (arith, z, h)))
 
+-- octets stored behind those that a buffer was begun with
+pub emit_begun :
+    {out p os : List ℕ} {a b : Writer}
+    → Writes a os b
+    → Begun out p a.out.now
+    → length p ≡ a.at
+    → a.at + length os ≤ fit64 (length out)
+    → Begun out (p ++ os) b.out.now
+emit_begun {out} {p} {os} {a} {b} x g e h =
+    let n : length a.out.now ≡ length out = g.same in
+    let first : take a.at a.out.now ≡ p = in_front a.at g e in
+    let stored : b.out.now ≡ over (p ++ os) a.out.now = rw first at (x.held (omega (arith, h, n))) in
+    begin out (p ++ os) b.out.now (omega (arith, h, e, length-append p os)) (joined out a.out.now b.out.now p os g.holds stored)
+
 -- the octets of a number of 32 bits and of 16, the high one first
 pub four_bytes : (n : ℕ) → n < 2 ^ 32 → to_be_bytes w32 n ≡ four n
 four_bytes n h =

@@ -19,7 +19,7 @@ encode_address_as tag a values t =
 abbrev pub encode_address : SuaAddress → (values : List ℕ) → Table → Outcome (List ℕ)
 encode_address = encode_address_as 0
 
--- A sub-parameter of a tag and a value, if it is there.
+-- A sub-parameter of a tag and a value, if it is there: a point code, an SSN (RFC 3868, 3.10.2.4 and 3.10.2.5).
 abbrev pub given_param : (tag : ℕ) → Option (List ℕ) → List Param
 given_param tag None = []
 given_param tag (Some v) = param tag v ∷ []

@@ -50,7 +50,7 @@ cldr context cause_type cause_value source sv st destination dv dt octets =
 abbrev pub asp_up : (id : Option ℕ) → (info : Option (List ℕ)) → Outcome (List ℕ)
 asp_up id info = written M.AspUp (given (number 0x0011) id ++ given (param 0x0004) info)
 
--- Octets under a tag, and nothing else.
+-- Octets under a tag, if given, and nothing else (RFC 3868, 3.5).
 abbrev pub octets_only : MessageType → (tag : ℕ) → (octets : Option (List ℕ)) → Outcome (List ℕ)
 octets_only m tag octets = written m (given (param tag) octets)
 

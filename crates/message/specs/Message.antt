@@ -20,13 +20,14 @@ header_octets h = h.version ∷ 0 ∷ class_of h.message_type ∷ type_of h.mess
 abbrev pub framed : MessageType → (params : List ℕ) → List ℕ
 framed m os = header_octets (header_with m (8 + length os)) ++ os
 
--- How many octets a header and so many octets of parameters take; 12, then 14 where there is less room.
+-- How many octets a header (RFC 3868, 3.1) and so many octets of parameters take; 12, then 14 where there is less room (document 01,
+-- 'Order').
 abbrev pub whole_length : (run room : ℕ) → Outcome ℕ
 whole_length run room =
     demand (leb (fit64 (8 + run)) most) 12 (fit64 (8 + run) ∷ [])
     (demand (leb (fit64 (8 + run)) room) 14 (fit64 (8 + run) ∷ []) (accepted (fit64 (8 + run))))
 
--- The header of a message of that length in front of a buffer; a refusal leaves the buffer as it was.
+-- The header (RFC 3868, 3.1) of a message of that length in front of a buffer; a refusal leaves the buffer as it was.
 abbrev pub headed : MessageType → (total : Outcome ℕ) → List ℕ → Delivered
 headed m (accepted total) out = delivered (accepted total) (header_octets (header_with m total) ++ drop 8 out)
 headed m (refused n vs) out = delivered (refused n vs) out

@@ -32,16 +32,8 @@ known :
     → Walked v s
 known v s o within long routing e = walked v s o within long (routed (two_at v 0) routing) (e ∙ bounded-within v _ within)
 
-whole :
-    (v : List ℕ) (s : Parts) {i : ℕ}
-    → Octets v
-    → length v ≤ most
-    → 4 ≤ length v
-    → accepted i ≡ routing_in (two_at v 0)
-    → accepted s ≡ bounded v (mapped (note_all nothing) (places v 4))
-    → s.short ≡ None
-    → accepted s ≡ interpreted v
-whole v s o within long routing e none = read-interpreted (record { known = known v s o within long routing e; whole = none })
+whole : (v : List ℕ) (s : Parts) → Walked v s → s.short ≡ None → accepted s ≡ interpreted v
+whole v s k none = read-interpreted (record { known = k; whole = none })
 
 pub returns-in_err-within-clause-parts : goal.returns-in_err-within-clause-parts
 returns-in_err-within-clause-parts c =
@@ -91,8 +83,9 @@ invariant_of-result c =
       within = (few_octets c.in_ok-within.ensures);
       fits = λ i. (c.type_inv.value i).fits;
       routed = c.in_ok-routing.ensures ∙ ap routing_in routing;
-      read = whole v c.in_ok-parts.parts (octets-of v (λ i. (c.type_inv.value i).fits)) (few_octets c.in_ok-within.ensures) c.if-n-lt4.false
-          (c.in_ok-routing.ensures ∙ ap routing_in routing) c.in_ok-parts.ensures c.in_default.is;
+      read = whole v c.in_ok-parts.parts
+          (known v c.in_ok-parts.parts (octets-of v (λ i. (c.type_inv.value i).fits)) (few_octets c.in_ok-within.ensures) c.if-n-lt4.false
+          (c.in_ok-routing.ensures ∙ ap routing_in routing) c.in_ok-parts.ensures) c.in_default.is;
     }
 
 pub returns-clause-parts : goal.returns-clause-parts
@@ -100,5 +93,6 @@ unfolding two_at
 returns-clause-parts c =
     let v = c.args.value.now in
     let routing : c.from_be_bytes.result ≡ two_at v 0 = omega (arith, c.from_be_bytes.ensures) in
-    whole v c.in_ok-parts.parts (octets-of v (λ i. (c.type_inv.value i).fits)) (few_octets c.in_ok-within.ensures) c.if-n-lt4.false
-    (c.in_ok-routing.ensures ∙ ap routing_in routing) c.in_ok-parts.ensures c.in_default.is
+    whole v c.in_ok-parts.parts
+    (known v c.in_ok-parts.parts (octets-of v (λ i. (c.type_inv.value i).fits)) (few_octets c.in_ok-within.ensures) c.if-n-lt4.false
+    (c.in_ok-routing.ensures ∙ ap routing_in routing) c.in_ok-parts.ensures) c.in_default.is

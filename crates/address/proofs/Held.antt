@@ -1,19 +1,22 @@
 -- An address value as the code holds it: it was read, and what it keeps lies inside it.
 use Prim.Native.Nat.{ℕ, ◌+◌, ◌*◌, ◌≤◌, ◌<◌}
-use mathlib.Core.Path.{◌≡◌, ap, ◌∙◌}
+use mathlib.Core.Path.{◌≡◌, refl, sym, ap, ◌∙◌}
 use Rattle.std.specs.Prelude.{Option, None, Some, option_map, MatchOption, IsSomeAnd}
 use mathlib.Core.List.{List}
 use native.Mathlib.Omega.{arith}
 use lib.ListN.{length, get_or}
 use borrow.Author.Tests.{le-leb}
-use Rattle.bcd.specs.Outcome.{accepted, Octets}
-use Rattle.bcd.specs.Digits.{built_in}
+use Rattle.bcd.specs.Outcome.{accepted, mapped, Octets}
+use Rattle.bcd.specs.Digits.{Alphabet, built_in}
 use Rattle.bcd.proofs.Outcomes.{bounded-within, octets-of, all_take, all_drop}
 use Rattle.parameter.specs.Parameter.{four}
 use Rattle.parameter.specs.Walk.{valued}
 use Rattle.parameter.specs.declared.Place.{Place}
 use Rattle.parameter.proofs.Records.{value-length}
 use Rattle.address.specs.Address.{title_at, title_in, read_title}
+use Rattle.address.specs.Titles.{record_of}
+use Rattle.address.specs.Absent.{absent_at}
+use Rattle.address.specs.Parts.{kept_value, kept_title}
 use Rattle.address.specs.declared.interpret.TitleValue.{TitleValue}
 use Rattle.address.specs.Steps.Plan.{HeldIn, Read}
 use Rattle.address.specs.declared.interpret.Interpreted.{Interpreted}
@@ -44,12 +47,31 @@ lies v least o p held e =
     let l = value-length v p h.0 in
     record { inside = h.0; size = l; enough = omega (arith, h.1) }
 
--- A title's octets are read without refusal.
-pub title_read : (t : TitleValue) → read_title built_in t.octets.now ≡ accepted (title_at built_in t.octets.now)
+-- The title that is kept, where its octets are.
+pub titled :
+    (A : Alphabet) (v : List ℕ) (o : Option TitleValue) (k : Option Place)
+    → option_map (λ (t : TitleValue). t.octets.now) o ≡ kept_value v k
+    → option_map (λ (t : TitleValue). title_at A t.octets.now) o ≡ kept_title A v k
+titled A v o k e = sym (through o) ∙ ap (option_map (title_at A)) e ∙ back k
+  where
+    through : (o : Option TitleValue) → option_map (title_at A) (option_map (λ (t : TitleValue). t.octets.now) o) ≡ option_map (λ (t : TitleValue). title_at A t.octets.now) o
+    through None = refl
+    through (Some t) = refl
+
+    back : (k : Option Place) → option_map (title_at A) (kept_value v k) ≡ kept_title A v k
+    back None = refl
+    back (Some p) = refl
+
+-- A title's octets are read without refusal, as a record with how many digits are absent.
+pub title_recorded :
+    (t : TitleValue)
+    → mapped (record_of (absent_at built_in t.octets.now)) (read_title built_in t.octets.now)
+    ≡ accepted (record_of (absent_at built_in t.octets.now) (title_at built_in t.octets.now))
 unfolding read_title title_in
-title_read t =
+title_recorded t =
     let v = t.octets.now in
-    bounded-within v (title_in built_in v) t.within ∙ rw (le-leb 8 (length v) t.long)
+    ap (mapped (record_of (absent_at built_in v))) (bounded-within v (title_in built_in v) t.within)
+    ∙ rw (le-leb 8 (length v) t.long)
 
 -- What `map` of `u32::from_be_bytes` gives of the four octets of a number: the number again.
 pub of_octets :

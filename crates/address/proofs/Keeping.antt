@@ -147,8 +147,8 @@ later-later (Some x) None c = refl
 later-later (Some x) (Some y) None = refl
 later-later (Some x) (Some y) (Some z) = refl
 
--- Of the pieces of a tag the last one is kept, for any tag.
-module _ {X : Type 0} (tag : ℕ) (piece_of : Place → Piece) (select : Piece → Option X) (part : Place → X) (field : Parts → Option Place)
+-- Of those of a tag the last one is kept, for any tag.
+module _ {X Y : Type 0} (tag : ℕ) (piece_of : Place → Y) (select : Y → Option X) (part : Place → X) (field : Parts → Option Place)
     (picks : (p : Place) → select (piece_of p) ≡ pick (eqb p.tag tag) (Some (part p)) None)
     (keeps : (s : Parts) (p : Place) → field (noted s p) ≡ pick (eqb p.tag tag) (Some p) (field s)) where
   holds_one : (s : Parts) (p : Place) → later (option_map part (field s)) (select (piece_of p)) ≡ option_map part (field (noted s p))

@@ -9,6 +9,7 @@ pub mod Records
 pub mod Surveying
 pub mod Keeping
 pub mod Interpreting
+pub mod Absent
 pub mod Others
 pub mod Planning
 pub mod Interpreted

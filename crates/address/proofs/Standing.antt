@@ -11,6 +11,7 @@ use Rattle.parameter.specs.Table.{Table, Tabulated, tabulate, records}
 use Rattle.parameter.proofs.Stored.{stored_or_small}
 use Rattle.bcd.proofs.Outcomes.{accepted_inj}
 use Rattle.address.specs.Address.{Address, read_address}
+use Rattle.address.specs.Absent.{absent_in}
 use Rattle.address.specs.Listing.{other_places, address_record, Listed, listed, list_address}
 use Rattle.address.specs.Steps.Plan.{Read}
 use Rattle.address.specs.Standing.{ListsAs}
@@ -30,7 +31,7 @@ module _ {v : List ℕ} {s : Parts} (y : Read v s) (t : Table) where
   abbrev stored : Tabulated
   stored = tabulate (accepted ps) t
 
-  told : (o : Tabulated) → stored ≡ o → list_address v t ≡ listed (mapped (λ (n : ℕ). address_record a) o.answer) o.table
+  told : (o : Tabulated) → stored ≡ o → list_address v t ≡ listed (mapped (λ (n : ℕ). address_record (absent_in built_in v) a) o.answer) o.table
   told o e = list_known y t o (sym (ap (λ (o : Outcome (List Place)). tabulate o t) (places-known y) ∙ e))
 
   lists : ListsAs v a t
@@ -39,14 +40,14 @@ module _ {v : List ℕ} {s : Parts} (y : Read v s) (t : Table) where
       (λ (n, r).
       let all = told stored refl in
       inl (record {
-        read = address_record a;
-        answer = ap (λ (l : Listed). l.answer) all ∙ ap (mapped (λ (n : ℕ). address_record a)) n;
+        read = address_record (absent_in built_in v) a;
+        answer = ap (λ (l : Listed). l.answer) all ∙ ap (mapped (λ (n : ℕ). address_record (absent_in built_in v) a)) n;
         others =
             ap (λ (l : Listed). records v l.table (length a.others)) all
             ∙ ap (records v stored.table) (others_count y)
             ∙ r
             ∙ ap accepted (sym (others y));
-        address = address_back a (routing y);
+        address = address_back (absent_in built_in v) a (routing y);
       }))
       (λ small. inr (told _ small ∙ ap (λ (n : ℕ). listed (refused 13 (n ∷ [])) t) (sym (others_count y))))
       (stored_or_small v ps t (others_inside y))

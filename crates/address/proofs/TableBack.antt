@@ -20,6 +20,7 @@ use Rattle.parameter.proofs.Stored.{stored-records}
 use Rattle.address.specs.Address.{Title, Address, address_with, read_address, write_address}
 use Rattle.address.specs.Records.{title_of, part_given, address_given}
 use Rattle.address.specs.Titles.{record_of}
+use Rattle.address.specs.Absent.{absent_in}
 use Rattle.address.specs.Listing.{is_other, other_places, address_places, address_record, Listed, listed, list_address}
 use Rattle.address.specs.Given.{encode_address_as, encode_address}
 use Rattle.address.specs.Parts.{nothing, note_all}
@@ -48,12 +49,15 @@ kept_few v (Some p) o = read_at_most built_in (drop 8 w) (get_or w 4 0) (omega (
     octets : Octets w
     octets = all_take (λ (x : ℕ). x < 256) p.length (drop p.start v) (all_drop (λ (x : ℕ). x < 256) p.start v o)
 
-title_taken : (o : Option Title) → FewDigits o → part_given (option_map record_of o) ≡ accepted (option_map title_of (option_map record_of o))
-title_taken None f = refl
-title_taken (Some t) f = rw (le-leb (length t.digits) 255 f)
+title_taken :
+    (n : ℕ) (o : Option Title)
+    → FewDigits o
+    → part_given (option_map (record_of n) o) ≡ accepted (option_map title_of (option_map (record_of n) o))
+title_taken n None f = refl
+title_taken n (Some t) f = rw (le-leb (length t.digits) 255 f)
 
-given-read : (a : Address) → a.routing ≤ 4 → FewDigits a.title → address_given (address_record a) a.others ≡ accepted a
-given-read a h f = rw (title_taken a.title f) (ap accepted (address_back a h))
+given-read : (n : ℕ) (a : Address) → a.routing ≤ 4 → FewDigits a.title → address_given (address_record n a) a.others ≡ accepted a
+given-read n a h f = rw (title_taken n a.title f) (ap accepted (address_back n a h))
 
 pub others-all : (P : Place → Type 0) (ps : List Place) → All P ps → All P (other_places ps)
 others-all P [] h = tt
@@ -67,7 +71,7 @@ others-all P (p ∷ ps) h = go (is_other p.tag) (others-all P ps h.1)
 pub record IsListed (v : List ℕ) (t : Table) (r : SuaAddress) (held : Table) : Type 0 where
   pub address : Address
   pub read : read_address built_in v ≡ accepted address
-  pub recorded : r ≡ address_record address
+  pub recorded : r ≡ address_record (absent_in built_in v) address
   pub count : ℕ
   pub stored : record { answer = accepted count; table = held } ≡ tabulate (address_places v) t
 
@@ -115,27 +119,27 @@ module _ {v : List ℕ} {s : Parts} (y : Read v s) where
   others_inside = others-all (Inside v) ps (places_inside v 4 ps y.known.walked)
 
   pub record_written :
-      (values : List ℕ) (held : Table)
+      (n : ℕ) (values : List ℕ) (held : Table)
       → records values held (length (other_places ps)) ≡ accepted (map (valued v) (other_places ps))
-      → encode_address (address_record a) values held ≡ write_address built_in 0 a
+      → encode_address (address_record n a) values held ≡ write_address built_in 0 a
   unfolding encode_address_as
-  record_written values held e =
+  record_written n values held e =
       let from-table : records values held (length a.others) ≡ accepted a.others =
       ap (records values held) others_count ∙ e ∙ ap accepted (sym others) in
-      ap (λ (o : Outcome (List Param)). after o (λ os. after (address_given (address_record a) os) (write_address built_in 0))) from-table
-      ∙ ap (λ (o : Outcome Address). after o (write_address built_in 0)) (given-read a routing few)
+      ap (λ (o : Outcome (List Param)). after o (λ os. after (address_given (address_record n a) os) (write_address built_in 0))) from-table
+      ∙ ap (λ (o : Outcome Address). after o (write_address built_in 0)) (given-read n a routing few)
 
   -- as it is read and written again
   pub written_again :
-      (values : List ℕ) (held : Table) (r : SuaAddress) (x : Address)
+      (n : ℕ) (values : List ℕ) (held : Table) (r : SuaAddress) (x : Address)
       → read_address built_in v ≡ accepted x
-      → r ≡ address_record x
+      → r ≡ address_record n x
       → records values held (length (other_places ps)) ≡ accepted (map (valued v) (other_places ps))
       → encode_address r values held ≡ after (read_address built_in v) (write_address built_in 0)
-  written_again values held r x read recorded e =
+  written_again n values held r x read recorded e =
       let same : x ≡ a = accepted_inj (sym read ∙ read_whole y) in
-      ap (λ (r : SuaAddress). encode_address r values held) (recorded ∙ ap address_record same)
-      ∙ record_written values held e
+      ap (λ (r : SuaAddress). encode_address r values held) (recorded ∙ ap (address_record n) same)
+      ∙ record_written n values held e
       ∙ sym (ap (λ (o : Outcome Address). after o (write_address built_in 0)) (read_whole y))
 
 pub written_from_table :
@@ -147,5 +151,5 @@ written_from_table v t held r o e =
     let l = list_inv v t held r e in
     let (s, y) = accepted_read o l.read in
     let stored = l.stored ∙ ap (λ (o : Outcome (List Place)). tabulate o t) (places-known y) in
-    written_again y v held r l.address l.read l.recorded
+    written_again y (absent_in built_in v) v held r l.address l.read l.recorded
     (stored-records v (other_places y.known.places) t held l.count (others_inside y) stored).params

@@ -15,6 +15,7 @@ use Rattle.parameter.specs.Table.{Table, Tabulated, tabulated, over, tabulate}
 use Rattle.parameter.specs.declared.Place.{Place}
 use Rattle.parameter.proofs.Reaching.{Reached, reached_start, walk_more}
 use Rattle.address.specs.Address.{read_address}
+use Rattle.address.specs.Absent.{absent_in}
 use Rattle.address.specs.Listing.{is_other, other_places, address_places, address_record, listed, list_address}
 use Rattle.address.specs.Steps.Plan.{Walked, Read}
 use Rattle.address.specs.declared.SuaAddress.{SuaAddress}
@@ -126,7 +127,7 @@ list_refused v t n vs e = rw e
 pub list_known :
     {v : List ℕ} {s : Parts} (r : Read v s) (t : Table) (stored : Tabulated)
     → stored ≡ tabulate (address_places v) t
-    → list_address v t ≡ listed (mapped (λ n. address_record (address r.known)) stored.answer) stored.table
+    → list_address v t ≡ listed (mapped (λ n. address_record (absent_in built_in v) (address r.known)) stored.answer) stored.table
 unfolding list_address
 list_known r t stored h = rw (read_whole r, ← h)
 
@@ -146,6 +147,7 @@ list_small {v} {s} r t h =
 pub list_done :
     {v : List ℕ} {s : Parts} (r : Read v s) (t held : Table) (n : ℕ) (o : Outcome SuaAddress)
     → tabulated (accepted n) held ≡ tabulate (address_places v) t
-    → o ≡ mapped address_record (read_address built_in v)
+    → o ≡ mapped (address_record (absent_in built_in v)) (read_address built_in v)
     → listed o held ≡ list_address v t
-list_done r t held n o h e = ap (λ (o : Outcome SuaAddress). listed o held) (e ∙ ap (mapped address_record) (read_whole r)) ∙ sym (list_known r t _ h)
+list_done {v} r t held n o h e =
+    ap (λ (o : Outcome SuaAddress). listed o held) (e ∙ ap (mapped (address_record (absent_in built_in v))) (read_whole r)) ∙ sym (list_known r t _ h)

@@ -17,6 +17,7 @@ use Rattle.bcd.proofs.Writable.{write_inv}
 use Rattle.address.specs.Address.{Title, title_in, read_title, title_octets, write_title}
 use Rattle.address.specs.Records.{title_of, title_given, title_record}
 use Rattle.address.specs.Titles.{zeros, record_of}
+use Rattle.address.specs.Absent.{absent_at}
 use Rattle.address.specs.Lengths.{title_length}
 use Rattle.address.specs.declared.GlobalTitle.{GlobalTitle}
 use Rattle.address.proofs.Copying.{lent_length}
@@ -24,12 +25,15 @@ use Rattle.address.proofs.Lending.{lent_refused, lent_accepted, refusal_same, sh
 
 -- Reading a title: 12, 1, or the record.
 module _ (v : List ℕ) where
-  pub title_beyond : most < length v → refused 12 (length v ∷ []) ≡ mapped record_of (read_title built_in v)
+  abbrev recorded : Title → GlobalTitle
+  recorded = record_of (absent_at built_in v)
+
+  pub title_beyond : most < length v → refused 12 (length v ∷ []) ≡ mapped recorded (read_title built_in v)
   unfolding read_title
   title_beyond h = rw (bounded_beyond v (title_in built_in v) h)
 
   module _ (within : length v ≤ most) where
-    pub title_few : length v < 8 → refused 1 (8 ∷ length v ∷ []) ≡ mapped record_of (read_title built_in v)
+    pub title_few : length v < 8 → refused 1 (8 ∷ length v ∷ []) ≡ mapped recorded (read_title built_in v)
     unfolding read_title title_in
     title_few h = rw (bounded-within v (title_in built_in v) within, lt-leb 8 (length v) h)
 
@@ -37,20 +41,24 @@ module _ (v : List ℕ) where
       abbrev digits : List ℕ
       digits = digits_in built_in (drop 8 v) (get_or v 4 0)
 
-      pub digits-known : mapped digits_record (read_digits built_in (drop 8 v) (get_or v 4 0)) ≡ accepted (digits_record digits)
+      abbrev read_so : Outcome GtDigits
+      read_so = mapped (digits_record (absent_at built_in v)) (read_digits built_in (drop 8 v) (get_or v 4 0))
+
+      digits-known : read_so ≡ accepted (digits_record (absent_at built_in v) digits)
       unfolding read_digits
-      digits-known = ap (mapped digits_record) (bounded-within (drop 8 v) (accepted digits) (omega (arith, length-drop 8 v)))
+      digits-known = ap (mapped (digits_record (absent_at built_in v))) (bounded-within (drop 8 v) (accepted digits) (omega (arith, length-drop 8 v)))
 
       pub title_done :
           (read : GtDigits)
-          → accepted read ≡ mapped digits_record (read_digits built_in (drop 8 v) (get_or v 4 0))
-          → accepted (title_record (get_or v 3 0) (get_or v 5 0) (get_or v 6 0) (get_or v 7 0) read.digits read.count) ≡ mapped record_of (read_title built_in v)
+          → accepted read ≡ read_so
+          → accepted (title_record (get_or v 3 0) (get_or v 5 0) (get_or v 6 0) (get_or v 7 0) read.digits read.count read.absent)
+          ≡ mapped recorded (read_title built_in v)
       unfolding read_title title_in
       title_done read e =
-          let all : read ≡ digits_record digits = accepted_inj (e ∙ digits-known) in
+          let all : read ≡ digits_record (absent_at built_in v) digits = accepted_inj (e ∙ digits-known) in
           rw (bounded-within v (title_in built_in v) within, le-leb 8 (length v) long, all)
 
-      pub title_never : {X : Type 0} (n : ℕ) (vs : List ℕ) → refused n vs ≡ mapped digits_record (read_digits built_in (drop 8 v) (get_or v 4 0)) → X
+      pub title_never : {X : Type 0} (n : ℕ) (vs : List ℕ) → refused n vs ≡ read_so → X
       title_never n vs e = absurd (never (e ∙ digits-known))
 
 -- Writing a record: 11, 9, 14, or its octets.
@@ -138,5 +146,5 @@ module _ (g : GlobalTitle) (few : g.count ≤ 255) (long : 255 ≤ length g.digi
           ∙ ap (λ (o : Outcome (List ℕ)). deliver o out) (sym (given g few ∙ ap (mapped (title_octets (title_of g))) w))
 
 -- The record of a title stands for that title.
-pub record_back : (t : Title) → title_of (record_of t) ≡ t
-record_back t = ap (λ ds. record { gti = t.gti; tt = t.tt; np = t.np; noa = t.noa; digits = ds }) (take-append_seam t.digits (drop (length t.digits) zeros))
+pub record_back : (absent : ℕ) (t : Title) → title_of (record_of absent t) ≡ t
+record_back absent t = ap (λ ds. record { gti = t.gti; tt = t.tt; np = t.np; noa = t.noa; digits = ds }) (take-append_seam t.digits (drop (length t.digits) zeros))

@@ -97,8 +97,8 @@ later None o = o
 later (Some x) None = Some x
 later (Some x) (Some y) = Some y
 
--- Of pieces of one kind the last one holds (document 01, module 3).
-abbrev pub last : {X : Type 0} → (Piece → Option X) → List Piece → Option X
+-- Of those of one kind the last one holds (document 01, module 3).
+abbrev pub last : {X Y : Type 0} → (Y → Option X) → List Y → Option X
 last f [] = None
 last f (x ∷ xs) = later (f x) (last f xs)
 

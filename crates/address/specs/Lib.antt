@@ -3,6 +3,7 @@
 pub mod Address
 pub mod Records
 pub mod Titles
+pub mod Absent
 pub mod Listing
 pub mod Given
 pub mod Parts

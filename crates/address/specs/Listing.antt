@@ -8,6 +8,7 @@ use Rattle.parameter.specs.Table.{Table, Tabulated, tabulate}
 use Rattle.parameter.specs.declared.Place.{Place}
 use Rattle.address.specs.Address.{Address, read_address}
 use Rattle.address.specs.Titles.{record_of}
+use Rattle.address.specs.Absent.{absent_in}
 use Rattle.address.specs.declared.RoutingIndicator.{RoutingIndicator}
 use Rattle.address.specs.declared.RoutingIndicator.TheVariants as I
 use Rattle.address.specs.declared.SuaAddress.{SuaAddress}
@@ -29,14 +30,15 @@ abbrev pub routing_named : ℕ → RoutingIndicator
 routing_named n =
     get_or (I.Reserved ∷ I.RouteOnGlobalTitle ∷ I.RouteOnSsnAndPc ∷ I.RouteOnHostname ∷ I.RouteOnSsnAndIp ∷ []) n I.Reserved
 
--- The record of an address; its other sub-parameters stand in a lent table (document 01, 'Rust forms that cannot stay').
-abbrev pub address_record : Address → SuaAddress
-address_record a = record {
+-- The record of an address, with how many digits of its title are absent; its other sub-parameters stand in a lent table
+-- (document 01, 'Rust forms that cannot stay').
+abbrev pub address_record : (absent : ℕ) → Address → SuaAddress
+address_record absent a = record {
   routing_indicator = routing_named a.routing;
   include_gt = a.gt;
   include_pc = a.pc;
   include_ssn = a.ssn;
-  global_title = option_map record_of a.title;
+  global_title = option_map (record_of absent) a.title;
   point_code = a.code;
   ssn = a.sub;
   other_count = length a.others;
@@ -55,4 +57,4 @@ listed answer held = record { answer = answer; table = held }
 unfoldable pub list_address : List ℕ → Table → Listed
 list_address v t =
     let stored : Tabulated = tabulate (address_places v) t in
-    listed (after (read_address built_in v) (λ a. mapped (λ n. address_record a) stored.answer)) stored.table
+    listed (after (read_address built_in v) (λ a. mapped (λ n. address_record (absent_in built_in v) a) stored.answer)) stored.table

@@ -53,6 +53,10 @@ note_all s (p ∷ ps) = note_all (noted s p) ps
 unfoldable pub interpreted : List ℕ → Outcome Parts
 interpreted v = after (read_address built_in v) (λ a. mapped (note_all nothing) (places v 4))
 
+-- The octets of what is kept.
+abbrev pub kept_value : List ℕ → Option Place → Option (List ℕ)
+kept_value v = option_map (λ p. (valued v p).value)
+
 -- What is kept, as the parts of the address: a title, a point code, an SSN (RFC 3868, 3.10.2.3 to 3.10.2.5).
 abbrev pub kept_title : Alphabet → List ℕ → Option Place → Option Title
 kept_title A v = option_map (λ p. title_at A (valued v p).value)

@@ -17,7 +17,7 @@ routing_value I.RouteOnSsnAndPc = 2
 routing_value I.RouteOnHostname = 3
 routing_value I.RouteOnSsnAndIp = 4
 
--- The title that a record stands for: the count says how many of its 255 digits there are.
+-- The title that a record stands for: the count says how many of its 255 digits there are; those that are absent are no part of it.
 abbrev pub title_of : GlobalTitle → Title
 title_of g = record {
   gti = g.gti;
@@ -54,14 +54,15 @@ abbrev pub address_given : SuaAddress → List Param → Outcome Address
 address_given a others = mapped (λ t. address_of a others) (part_given a.global_title)
 
 -- The record of a title.
-abbrev pub title_record : (gti tt np noa : ℕ) → (digits : List ℕ) → (count : ℕ) → GlobalTitle
-title_record gti tt np noa digits count = record {
+abbrev pub title_record : (gti tt np noa : ℕ) → (digits : List ℕ) → (count absent : ℕ) → GlobalTitle
+title_record gti tt np noa digits count absent = record {
   gti = gti;
   translation_type = tt;
   numbering_plan = np;
   nature_of_address = noa;
   digits = digits;
   count = count;
+  absent = absent;
 }
 
 -- Routed on the title, with or without an SSN; what is there is included (address.rs, `with_gt`).

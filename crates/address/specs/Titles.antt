@@ -7,6 +7,7 @@ use Rattle.address.specs.declared.GlobalTitle.{GlobalTitle}
 abbrev pub zeros : List ℕ
 zeros = replicate 255 0
 
--- The record of a title: its digits in front of zeros.
-abbrev pub record_of : Title → GlobalTitle
-record_of t = title_record t.gti t.tt t.np t.noa (t.digits ++ drop (length t.digits) zeros) (length t.digits)
+-- The record of a title: its digits in front of zeros, and how many of those declared are absent.
+abbrev pub record_of : (absent : ℕ) → Title → GlobalTitle
+record_of absent t =
+    title_record t.gti t.tt t.np t.noa (t.digits ++ drop (length t.digits) zeros) (length t.digits) absent

@@ -5,9 +5,9 @@ ghost use Rattle.bcd.specs.Answers.{outcome_of};
 ghost use Rattle.bcd.specs.Digits.{built_in};
 ghost use Rattle.parameter.specs.Table.{tabulated, tabulate};
 ghost use Rattle.address.specs.Address.{read_address};
-ghost use Rattle.address.specs.Titles.{record_of};
+ghost use Rattle.address.specs.Absent.{absent_in};
 ghost use Rattle.address.specs.Listing.{other_places, address_places, address_record, listed, list_address};
-ghost use Rattle.address.specs.Parts.{kept_title};
+ghost use Rattle.address.specs.Steps.Kept.{kept_record};
 
 use crate::interpret::{Interpreted, interpret};
 use crate::rewrite::is_other;
@@ -19,7 +19,7 @@ impl<'a> Interpreted<'a> {
     // The record of the title, if there is one.
     fn title_record(&self) -> Result<Option<GlobalTitle>, Refusal>
         ensures { outcome_of result
-            ≡ accepted (option_map record_of (kept_title built_in self.now.value.now self.now.parts.title)) }
+            ≡ accepted (kept_record built_in self.now.value.now self.now.parts.title) }
     {
         let Some(title) = self.title() else {
             return Ok(None);
@@ -29,7 +29,7 @@ impl<'a> Interpreted<'a> {
 
     // The record. The include bits are those of the address indicator, whether or not their parts are there.
     fn record(&self) -> Result<SuaAddress, Refusal>
-        ensures { outcome_of result ≡ mapped address_record (read_address built_in self.now.value.now) }
+        ensures { outcome_of result ≡ mapped (address_record (absent_in built_in self.now.value.now)) (read_address built_in self.now.value.now) }
     {
         let bits = self.value[3];
         let include_gt = bits / 4 % 2 == 1;

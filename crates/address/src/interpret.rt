@@ -7,7 +7,7 @@ ghost use Rattle.parameter.specs.Parameter.{four, two_at, run_length};
 ghost use Rattle.address.specs.Address.{routing_in, title_at, title, present, sub_param};
 ghost use Rattle.address.specs.Records.{routing_value};
 ghost use Rattle.address.specs.Parts.{interpreted};
-ghost use Rattle.address.specs.Parts.{kept_title, kept_code, kept_sub};
+ghost use Rattle.address.specs.Parts.{kept_value, kept_title, kept_code, kept_sub};
 ghost use Rattle.address.specs.Steps.Kept.{short_numbers};
 ghost use Rattle.address.specs.Steps.GivenParts.{four_length};
 ghost use Rattle.address.specs.Steps.Plan.{digits_by, PlanOf};
@@ -90,7 +90,7 @@ pub struct Interpreted<'a> {
 impl<'a> Interpreted<'a> {
     // The title, if there is one.
     pub fn title(&self) -> Option<TitleValue<'a>>
-        ensures { option_map (λ (t : TitleValue). title_at built_in t.octets.now) result ≡ kept_title built_in self.now.value.now self.now.parts.title }
+        ensures { option_map (λ (t : TitleValue). t.octets.now) result ≡ kept_value self.now.value.now self.now.parts.title }
     {
         let place = self.parts.title?;
         Some(TitleValue {

@@ -75,7 +75,8 @@ impl RoutingIndicator {
     }
 }
 
-// A global title: the first `count` of `digits` are its digits (RFC 3868, 3.10.2.3).
+// A global title: the first `count` of `digits` are its digits (RFC 3868, 3.10.2.3). Where it was read, `absent` more were declared
+// and did not come: they are no part of what it means, and writing ignores them.
 #[derive(Clone, Copy, Debug, PartialEq, Eq)]
 pub struct GlobalTitle {
     pub gti: u8,
@@ -84,13 +85,15 @@ pub struct GlobalTitle {
     pub nature_of_address: u8,
     pub digits: [u8; 255],
     pub count: usize,
+    pub absent: usize,
 }
 
 impl GlobalTitle {
     // The octets before the digits: three reserved, indicator, digit count, translation type, numbering plan, nature.
     pub const HEADER_SIZE: usize = 8;
 
-    // A title of these descriptors and digits. A count above 255 is kept, and refused as 11 when the title is written.
+    // A title of these descriptors and digits, none of them absent. A count above 255 is kept, and refused as 11 when the title
+    // is written.
     pub fn new(
         gti: u8,
         translation_type: u8,
@@ -99,7 +102,7 @@ impl GlobalTitle {
         digits: [u8; 255],
         count: usize,
     ) -> GlobalTitle
-        ensures { result ≡ title_record gti translation_type numbering_plan nature_of_address digits count }
+        ensures { result ≡ title_record gti translation_type numbering_plan nature_of_address digits count 0 }
     {
         GlobalTitle {
             gti,
@@ -108,12 +111,13 @@ impl GlobalTitle {
             nature_of_address,
             digits,
             count,
+            absent: 0,
         }
     }
 
     // An international E.164 number: indicator 4, translation type 0, numbering plan 1, nature of address 4.
     pub fn e164(digits: [u8; 255], count: usize) -> GlobalTitle
-        ensures { result ≡ title_record 4 0 1 4 digits count }
+        ensures { result ≡ title_record 4 0 1 4 digits count 0 }
     {
         GlobalTitle::new(0x04, 0, 1, 4, digits, count)
     }

@@ -6,14 +6,16 @@ ghost use Rattle.bcd.specs.Digits.{built_in};
 ghost use Rattle.address.specs.Address.{read_title, write_title};
 ghost use Rattle.address.specs.Records.{title_given};
 ghost use Rattle.address.specs.Titles.{record_of};
+ghost use Rattle.address.specs.Absent.{absent_at};
 
 use crate::GlobalTitle;
+use bcd::GtDigits;
 use bcd::error::{Refusal, within};
 
 impl GlobalTitle {
     // Reads a title from the value of its sub-parameter. 12, 1.
     pub fn decode(value: &[u8]) -> Result<GlobalTitle, Refusal>
-        ensures { outcome_of result ≡ mapped record_of (read_title built_in value.now) }
+        ensures { outcome_of result ≡ mapped (record_of (absent_at built_in value.now)) (read_title built_in value.now) }
     {
         let n = value.len();
         within(n)?;
@@ -23,15 +25,20 @@ impl GlobalTitle {
                 actual: n,
             });
         }
-        let read = bcd::decode_gt_digits(&value[8..], value[4])?;
-        Ok(GlobalTitle::new(
-            value[3],
-            value[5],
-            value[6],
-            value[7],
-            read.digits,
-            read.count,
-        ))
+        let GtDigits {
+            digits,
+            count,
+            absent,
+        } = bcd::decode_gt_digits(&value[8..], value[4])?;
+        Ok(GlobalTitle {
+            gti: value[3],
+            translation_type: value[5],
+            numbering_plan: value[6],
+            nature_of_address: value[7],
+            digits,
+            count,
+            absent,
+        })
     }
 
     // Writes the value of a title's sub-parameter; the count is of the digits that are there. They are looked at once, and

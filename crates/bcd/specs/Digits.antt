@@ -1,5 +1,5 @@
 -- The digits of a global title (RFC 3868, 3.10.2.3; coded as ITU-T Q.713, 3.4.2.3.1, but for document 01, module 1).
-use Rattle.std.specs.Prelude.{ℕ, suc, ◌+◌, ◌*◌, ◌/◌, ◌%◌, ◌<◌, min, ◌≡◌, ◌&&◌, List, [], ◌∷◌, ◌++◌, map, length, get_or, take, drop, replicate, leb, eqb}
+use Rattle.std.specs.Prelude.{ℕ, suc, ◌+◌, ◌*◌, ◌/◌, ◌%◌, ◌-◌, ◌<◌, min, ◌≡◌, ◌&&◌, List, [], ◌∷◌, ◌++◌, map, length, get_or, take, drop, replicate, leb, eqb}
 use Rattle.std.specs.Prelude.{Option, None, Some, option_map}
 use Rattle.bcd.specs.Outcome.{Outcome, accepted, refused, pick, demand, mapped, each, All, bounded}
 use Rattle.bcd.specs.declared.GtDigits.{GtDigits}
@@ -51,9 +51,13 @@ digits_in A xs count = map A.char (take count (halves xs))
 unfoldable pub read_digits : Alphabet → List ℕ → (count : ℕ) → Outcome (List ℕ)
 read_digits A xs count = bounded xs (accepted (digits_in A xs count))
 
--- Digits as the code holds them: in front of zeros, with their number.
-abbrev pub digits_record : List ℕ → GtDigits
-digits_record cs = record { digits = cs ++ drop (length cs) (replicate 255 0); count = length cs }
+-- How many of the declared digits are absent: the count less the digits read (document 02, CR 7).
+abbrev pub absent_digits : Alphabet → List ℕ → (count : ℕ) → ℕ
+absent_digits A xs count = count - length (digits_in A xs count)
+
+-- Digits as the code holds them: in front of zeros, with their number, and how many are absent.
+abbrev pub digits_record : (absent : ℕ) → List ℕ → GtDigits
+digits_record absent cs = record { digits = cs ++ drop (length cs) (replicate 255 0); count = length cs; absent = absent }
 
 -- A character that is written as no half octet is refused as 9.
 abbrev pub written : ℕ → Option ℕ → Outcome (List ℕ)

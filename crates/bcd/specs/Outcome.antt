@@ -27,6 +27,11 @@ abbrev pub mapped : {A B : Type 0} → (A → B) → Outcome A → Outcome B
 mapped f (accepted a) = accepted (f a)
 mapped f (refused n vs) = refused n vs
 
+-- What was accepted, or another value in its place.
+abbrev pub accepted_or : {A : Type 0} → A → Outcome A → A
+accepted_or b (accepted a) = a
+accepted_or b (refused n vs) = b
+
 -- Each element in turn, what they give joined in order; the first refusal holds.
 abbrev pub each : {A B : Type 0} → (A → Outcome (List B)) → List A → Outcome (List B)
 each f [] = accepted []

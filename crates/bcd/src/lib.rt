@@ -8,16 +8,17 @@ ghost use Rattle.std.specs.Prelude.{◌≡◌, ◌*◌, ◌≤◌, length, get_o
 ghost use Rattle.bcd.specs.Outcome.{mapped, delivered, deliver};
 ghost use Rattle.bcd.specs.Answers.{outcome_of};
 ghost use Rattle.bcd.specs.Digits.{halves, built_in, digits_in, read_digits, write_digits};
-ghost use Rattle.bcd.specs.Digits.{written, digits_record};
+ghost use Rattle.bcd.specs.Digits.{written, absent_digits, digits_record};
 ghost use Rattle.bcd.specs.Steps.{one_half};
 
 use error::{Refusal, within};
 
-// Digits that were read, in front of zeros, and how many there are.
+// Digits that were read, in front of zeros, how many there are, and how many more were declared and are absent.
 #[derive(Clone, Copy, Debug, PartialEq, Eq)]
 pub struct GtDigits {
     pub digits: [u8; 255],
     pub count: usize,
+    pub absent: usize,
 }
 
 // The half octet that a digit is written as, if the octet is a digit. Comparisons, and no `match`, whose jump table takes more
@@ -130,14 +131,21 @@ fn unpack_digits(bytes: &[u8], out: &mut [u8])
     }
 }
 
-// Reads digits: as many as the count says, or as there are. 12.
+// Reads digits: as many as the count says, or as there are; the others are absent. 12.
 pub fn decode_gt_digits(bytes: &[u8], num_digits: u8) -> Result<GtDigits, Refusal>
-    ensures { outcome_of result ≡ mapped digits_record (read_digits built_in bytes.now num_digits) }
+    ensures { outcome_of result
+        ≡ mapped (digits_record (absent_digits built_in bytes.now num_digits)) (read_digits built_in bytes.now num_digits) }
 {
     let given = bytes.len();
     within(given)?;
-    let count = usize::from(num_digits).min(2 * given);
+    let declared = usize::from(num_digits);
+    let count = declared.min(2 * given);
     let mut digits = [0u8; 255];
     unpack_digits(bytes, &mut digits[..count]);
-    Ok(GtDigits { digits, count })
+    let absent = declared - count;
+    Ok(GtDigits {
+        digits,
+        count,
+        absent,
+    })
 }

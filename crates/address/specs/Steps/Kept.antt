@@ -1,13 +1,16 @@
 -- What is kept of an address value, as the parts of the address; and the refusal of a sub-parameter that is too short.
 use Rattle.std.specs.Prelude.{ℕ, Bool, true, false, List, [], ◌∷◌, ◌++◌, map, eqb}
-use Rattle.std.specs.Prelude.{Option, None, Some}
+use Rattle.std.specs.Prelude.{Option, None, Some, option_map}
 use Rattle.bcd.specs.Outcome.{Outcome, refused}
 use Rattle.bcd.specs.Digits.{Alphabet}
 use Rattle.parameter.specs.Walk.{valued}
 use Rattle.parameter.specs.declared.Place.{Place}
-use Rattle.address.specs.Address.{Piece, title, code, sub, other, present}
+use Rattle.address.specs.Address.{Piece, title, code, sub, other, title_at, present}
+use Rattle.address.specs.Titles.{record_of}
+use Rattle.address.specs.Absent.{absent_at}
 use Rattle.address.specs.Listing.{other_places}
-use Rattle.address.specs.Parts.{kept_title, kept_code, kept_sub}
+use Rattle.address.specs.Parts.{kept_value, kept_title, kept_code, kept_sub}
+use Rattle.address.specs.declared.GlobalTitle.{GlobalTitle}
 use Rattle.address.specs.declared.parts.Parts.{Parts}
 
 -- The refusal of a sub-parameter that is too short for its tag.
@@ -24,6 +27,10 @@ short_refusal p = refused (short_numbers p).0 (short_numbers p).1
 abbrev pub judged : {X : Type 0} → Option Place → Outcome X → Outcome X
 judged None o = o
 judged (Some p) o = short_refusal p
+
+-- The record of the title that is kept.
+abbrev pub kept_record : Alphabet → List ℕ → Option Place → Option GlobalTitle
+kept_record A v k = option_map (λ w. record_of (absent_at A w) (title_at A w)) (kept_value v k)
 
 -- The pieces that are written, in their order.
 unfoldable pub kept_pieces : Alphabet → List ℕ → Parts → List Place → List Piece

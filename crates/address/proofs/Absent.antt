@@ -1,13 +1,12 @@
 -- How many digits of a title are absent: by the walk that keeps it, and where it declares just those that it brings.
-use Prim.Native.Nat.{ℕ, ◌-◌, ◌*◌, ◌≤◌, ◌<◌, min}
+use Prim.Native.Nat.{ℕ}
 use mathlib.Core.Path.{◌≡◌, refl, sym, ap, ◌∙◌}
-use Rattle.std.specs.Prelude.{Option, None, Some, option_map, unwrap_or}
-use mathlib.Core.List.{List, [], ◌∷◌, map}
-use native.Mathlib.Omega.{arith}
-use lib.ListN.{length, get_or, drop, set}
+use Rattle.std.specs.Prelude.{Option, Some, option_map, unwrap_or}
+use mathlib.Core.List.{List, map}
+use lib.ListN.{drop}
 use Rattle.bcd.specs.Outcome.{accepted, pick, mapped, accepted_or}
 use Rattle.bcd.specs.Digits.{Alphabet}
-use Rattle.parameter.specs.Walk.{valued, places, parameters}
+use Rattle.parameter.specs.Walk.{valued, parameters}
 use Rattle.parameter.specs.declared.Place.{Place}
 use Rattle.parameter.proofs.Structure.{places-parameters}
 use Rattle.address.specs.Address.{last}

@@ -6,7 +6,7 @@ use mathlib.Core.List.{List, [], ◌∷◌, ◌++◌, map, append_assoc, append-
 use native.Mathlib.Omega.{arith}
 use lib.ListN.{length, get_or, drop, length-append, length-map, length-take, length-drop}
 use Rattle.std.specs.Prelude.{Option, None, Some, option_map}
-use Rattle.bcd.specs.Outcome.{Outcome, accepted, refused, pick, mapped, each, bounded, Octets, most}
+use Rattle.bcd.specs.Outcome.{Outcome, accepted, refused, pick, mapped, accepted_or, each, bounded, Octets, most}
 use Rattle.bcd.specs.Digits.{built_in, digits_in}
 use Rattle.bcd.proofs.Outcomes.{accepted_inj, after_inv, mapped_inv, each_inv, bounded-within, octets-of, octets_at}
 use Rattle.bcd.proofs.Reading.{digits-length}
@@ -17,7 +17,7 @@ use Rattle.parameter.proofs.Walking.{places_few}
 use Rattle.address.specs.Address.{Title, title_at, address_in, read_address, address_with}
 use Rattle.address.specs.Parts.{kept_title, kept_code, kept_sub}
 use Rattle.address.specs.Listing.{other_places}
-use Rattle.address.specs.Steps.Plan.{Read, places_in}
+use Rattle.address.specs.Steps.Plan.{Read}
 use Rattle.address.specs.Parts.{interpreted}
 use Rattle.address.specs.declared.parts.Parts.{Parts}
 use Rattle.address.specs.declared.interpret.Interpreted.{Interpreted}
@@ -110,15 +110,15 @@ parts_small base {v} {s} r =
     let C = marked four (kept_code v s.code) in
     let S = marked (λ (n : ℕ). n ∷ []) (kept_sub v s.ssn) in
     let O = others_fields base v s in
-    let walked : listed base (places_in (places v 4)) ≡ listed base r.known.places = ap (λ o. listed base (places_in o)) r.known.walked in
+    let walked : listed base (accepted_or [] (places v 4)) ≡ listed base r.known.places = ap (λ o. listed base (accepted_or [] o)) r.known.walked in
     omega (arith, title_small v s.title r.known.octets, code_small v s.code, sub_small v s.ssn, length-append T (C ++ (S ++ O)), length-append C (S ++ O), length-append S O, ap length walked, listed-length base r.known.places, walk_few r.known)
 
 -- there are no others
 pub others_none : (base : ℕ) {v : List ℕ} {s : Parts} (r : Read v s) {a b : Writer} → s.other_count ≡ 0 → Writes a (four s.other_count) b → Writes a (others_fields base v s) b
 unfolding places_octets
 others_none base {v} {s} r {a} {b} e x =
-    let none : listed base (places_in (places v 4)) ≡ [] =
-    ap (λ o. listed base (places_in o)) r.known.walked
+    let none : listed base (accepted_or [] (places v 4)) ≡ [] =
+    ap (λ o. listed base (accepted_or [] o)) r.known.walked
     ∙ ap (λ ps. places_octets (map (moved base) ps)) (empty (other_places r.known.places) (omega (arith, e, count_known r.known))) in
     subst (λ (os : List ℕ). Writes a os b) (sym (ap (λ (l : List ℕ). four s.other_count ++ l) none ∙ append-nil (four s.other_count))) x
   where

@@ -5,13 +5,12 @@ use mathlib.Core.Bool.{true, false}
 use mathlib.Core.List.{List, [], ◌∷◌, ◌++◌, map, map-append, append_assoc, append-nil}
 use native.Mathlib.Omega.{arith}
 use lib.ListN.{length, length-map}
-use Rattle.bcd.specs.Outcome.{accepted, bounded}
+use Rattle.bcd.specs.Outcome.{accepted, accepted_or, bounded}
 use Rattle.bcd.proofs.Outcomes.{bounded-within}
 use Rattle.parameter.specs.declared.Place.{Place}
 use Rattle.parameter.specs.Walk.{ended, found, step_at, places}
 use Rattle.parameter.proofs.Reaching.{Reached, reached_start, walk_within, walk_more, walk_end}
 use Rattle.address.specs.Listing.{is_other, other_places}
-use Rattle.address.specs.Steps.Plan.{places_in}
 use Rattle.address.proofs.Others.{others-append, others_fewer}
 use Rattle.flat.specs.Account.{place_octets, places_octets}
 use Rattle.message.specs.Accessors.{moved}
@@ -59,7 +58,7 @@ module _ {v : List ℕ} {base : ℕ} {a b : Writer} {at : ℕ} (l : Listing v ba
         writes = subst (λ (os : List ℕ). Writes a os c) (sym (listed-append base l.reached.done (p ∷ []))) (writes_more l.writes x);
       }
 
-  pub listing_done : accepted ended ≡ bounded v (step_at v at) → Writes a (listed base (places_in (places v 4))) b
+  pub listing_done : accepted ended ≡ bounded v (step_at v at) → Writes a (listed base (accepted_or [] (places v 4))) b
   listing_done e =
       let w = sym (bounded-within v (places v 4) (walk_within v at e)) ∙ walk_end l.reached e in
       rw w l.writes

@@ -16,6 +16,7 @@ use Rattle.parameter.specs.Walk.{valued}
 use Rattle.parameter.specs.Table.{Table, over, Tabulated, tabulated, tabulate}
 use Rattle.parameter.proofs.Records.{nowhere}
 use Rattle.address.specs.Address.{Address, read_address}
+use Rattle.address.specs.Absent.{absent_in}
 use Rattle.address.specs.Listing.{other_places, address_places, address_record, Listed, listed, list_address}
 use Rattle.address.specs.declared.SuaAddress.{SuaAddress}
 use Rattle.address.proofs.Interpreted.{read_whole, accepted_read}
@@ -68,7 +69,7 @@ module _ (base : ℕ) (t : Table) where
       go :
           (r : Outcome Address)
           → read_address built_in v ≡ r
-          → after r (λ a. mapped (λ n. address_record a) (tabulate (address_places v) t).answer) ≡ refused n vs
+          → after r (λ a. mapped (λ n. address_record (absent_in built_in v) a) (tabulate (address_places v) t).answer) ≡ refused n vs
           → (tabulate (address_places v) t).table ≡ (tabulate (mapped (map (moved base)) (address_places v)) t).table
       go (refused m ws) f g = let z : address_places v ≡ refused m ws = rw f in left (address_places v) m ws (ap (λ o. (tabulate o t).answer) z)
       go (accepted a) f g = kept (tabulate (address_places v) t).answer refl g
@@ -76,7 +77,7 @@ module _ (base : ℕ) (t : Table) where
           kept :
               (answer : Outcome ℕ)
               → (tabulate (address_places v) t).answer ≡ answer
-              → mapped (λ n. address_record a) answer ≡ refused n vs
+              → mapped (λ n. address_record (absent_in built_in v) a) answer ≡ refused n vs
               → (tabulate (address_places v) t).table ≡ (tabulate (mapped (map (moved base)) (address_places v)) t).table
           kept (refused m ws) k j = left (address_places v) m ws k
           kept (accepted m) k j = absurd (never (sym j))

@@ -53,13 +53,13 @@ worked_fields context source destination = record {
 abbrev pub worked_source : Listed
 worked_source =
     listed
-    (accepted (address_record (record { routing = 1; gt = false; pc = false; ssn = false; title = None; code = None; sub = None; others = param 0x8005 [] ∷ [] })))
+    (accepted (address_record 0 (record { routing = 1; gt = false; pc = false; ssn = false; title = None; code = None; sub = None; others = param 0x8005 [] ∷ [] })))
     (table (0x8005 ∷ []) (28 ∷ []) (0 ∷ []))
 
 abbrev pub worked_destination : Listed
 worked_destination =
     listed
-    (accepted (address_record (record { routing = 2; gt = false; pc = false; ssn = false; title = None; code = None; sub = Some 6; others = param 0x8005 [] ∷ [] })))
+    (accepted (address_record 0 (record { routing = 2; gt = false; pc = false; ssn = false; title = None; code = None; sub = Some 6; others = param 0x8005 [] ∷ [] })))
     (table (0x8005 ∷ []) (44 ∷ []) (0 ∷ []))
 
 -- An address that was refused, with its table as it was.

@@ -14,8 +14,10 @@ use Rattle.parameter.specs.Walk.{valued}
 use Rattle.parameter.specs.Table.{Table, over, Tabulated, tabulate, records, find_param}
 use Rattle.parameter.proofs.Stored.{stored-records}
 use Rattle.address.specs.Address.{Address, read_address}
+use Rattle.address.specs.Absent.{absent_in}
 use Rattle.address.specs.Listing.{other_places, address_record, Listed, listed, list_address}
 use Rattle.address.specs.Steps.Plan.{Read}
+use Rattle.address.specs.declared.SuaAddress.{SuaAddress}
 use Rattle.address.specs.declared.parts.Parts.{Parts}
 use Rattle.address.proofs.Interpreted.{address, read_whole, accepted_read}
 use Rattle.address.proofs.AddressRecords.{address_back}
@@ -43,8 +45,11 @@ module _ (values : List ℕ) (p : Place) (inside : p.start + p.length ≤ length
   moved_count : length qs ≡ length ps
   moved_count = length-map ps (moved p.start)
 
+  abbrev shown : SuaAddress
+  shown = address_record (absent_in built_in v) a
+
   abbrev told : Outcome ℕ → Table → Listed
-  told n held = listed (mapped (λ _. address_record a) n) held
+  told n held = listed (mapped (λ _. shown) n) held
 
   alone : list_address v t ≡ told (tabulate (accepted ps) t).answer (tabulate (accepted ps) t).table
   unfolding list_address
@@ -60,20 +65,20 @@ module _ (values : List ℕ) (p : Place) (inside : p.start + p.length ≤ length
       fits : length ps ≤ length t → Shows values a t (list_address_at p.start v t)
       fits h =
           let stored = tabulate_fits qs t (omega (arith, moved_count)) in
-          let is : list_address_at p.start v t ≡ listed (accepted (address_record a)) (over qs t) =
+          let is : list_address_at p.start v t ≡ listed (accepted shown) (over qs t) =
           at_base
           ∙ ap (λ (n : Outcome ℕ). told n (tabulate (accepted qs) t).table) (ap (λ (s : Tabulated). s.answer) (tabulate_fits ps t h))
-          ∙ ap (λ (s : Tabulated). listed (accepted (address_record a)) s.table) stored in
+          ∙ ap (λ (s : Tabulated). listed (accepted shown) s.table) stored in
           let k = stored-records values qs t (over qs t) (length qs) (inside_moved values p inside ps (others_inside y)) (sym stored) in
           inl (record {
-            read = address_record a;
+            read = shown;
             answer = ap (λ (l : Listed). l.answer) is;
             others =
                 ap (λ (l : Listed). records values l.table (length a.others)) is
                 ∙ ap (records values (over qs t)) (others_count y ∙ sym moved_count)
                 ∙ k.params
                 ∙ ap accepted (values_moved values p inside ps (others_inside y) ∙ sym (others y));
-            address = address_back a (routing y);
+            address = address_back (absent_in built_in v) a (routing y);
           })
 
       small : length t < length ps → Shows values a t (list_address_at p.start v t)

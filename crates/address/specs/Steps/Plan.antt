@@ -1,7 +1,7 @@
 -- An address value that was interpreted, and can be written.
 use Rattle.std.specs.Prelude.{ℕ, ◌+◌, ◌%◌, ◌≤◌, ◌≡◌, List, [], ◌++◌, map, length, get_or}
 use Rattle.std.specs.Prelude.{Option, None, Some, Result, Ok, Err}
-use Rattle.bcd.specs.Outcome.{Outcome, accepted, refused, after, each, Octets, most}
+use Rattle.bcd.specs.Outcome.{accepted, after, each, accepted_or, Octets, most}
 use Rattle.bcd.specs.Answers.{refusal_of}
 use Rattle.bcd.specs.Digits.{Alphabet, built_in}
 use Rattle.bcd.specs.declared.error.Refusal.{Refusal}
@@ -64,9 +64,5 @@ PlanOf A tag v s (Ok n) = Plan A v s n
 PlanOf A tag v s (Err r) = after (read_address built_in v) (write_address A tag) ≡ refusal_of r
 
 -- The octets of the others.
-abbrev pub places_in : Outcome (List Place) → List Place
-places_in (accepted ps) = ps
-places_in (refused n vs) = []
-
 unfoldable pub others_octets : List ℕ → List ℕ
-others_octets v = run_octets (map (valued v) (other_places (places_in (Walk.places v 4))))
+others_octets v = run_octets (map (valued v) (other_places (accepted_or [] (Walk.places v 4))))

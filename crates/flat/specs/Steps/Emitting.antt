@@ -1,6 +1,6 @@
 -- Octets stored one after the other, where the slice has places for them.
 use Rattle.std.specs.Prelude.{ℕ, ◌+◌, ◌%◌, ◌≤◌, ◌≡◌, List, [], ◌∷◌, ◌++◌, map, length, get_or, take}
-use Rattle.bcd.specs.Outcome.{Outcome, accepted, refused, after, each, bounded, fit64}
+use Rattle.bcd.specs.Outcome.{Outcome, accepted, refused, after, accepted_or, each, bounded, fit64}
 use Rattle.bcd.specs.Digits.{built_in}
 use Rattle.parameter.specs.declared.Place.{Place}
 use Rattle.parameter.specs.Parameter.{two, four, two_at}
@@ -9,7 +9,6 @@ use Rattle.parameter.specs.Table.{over}
 use Rattle.address.specs.declared.parts.Parts.{Parts}
 use Rattle.address.specs.Parts.{kept_title, kept_code, kept_sub}
 use Rattle.address.specs.Listing.{other_places}
-use Rattle.address.specs.Steps.Plan.{places_in}
 use Rattle.flat.specs.declared.writer.Writer.{Writer}
 use Rattle.flat.specs.Account.{places_octets, marked, title_fields, param_account}
 use Rattle.message.specs.Accessors.{moved}
@@ -32,7 +31,7 @@ abbrev pub listed : (base : ℕ) → List Place → List ℕ
 listed base ps = places_octets (map (moved base) (other_places ps))
 
 abbrev pub others_fields : (base : ℕ) → List ℕ → Parts → List ℕ
-others_fields base v s = four s.other_count ++ listed base (places_in (places v 4))
+others_fields base v s = four s.other_count ++ listed base (accepted_or [] (places v 4))
 
 unfoldable pub parts_fields : (base : ℕ) → List ℕ → Parts → List ℕ
 parts_fields base v s =

@@ -29,3 +29,4 @@ pub mod TableBack
 pub mod Numbers
 pub mod Held
 pub mod Standing
+pub mod Short

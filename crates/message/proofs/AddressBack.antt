@@ -17,6 +17,7 @@ use Rattle.parameter.specs.Table.{Table, Tabulated, tabulated, tabulate, records
 use Rattle.parameter.proofs.Records.{value-length}
 use Rattle.parameter.proofs.Stored.{stored-records}
 use Rattle.address.specs.Address.{read_address, write_address}
+use Rattle.address.specs.Absent.{absent_in}
 use Rattle.address.specs.Listing.{other_places, Listed, listed, list_address}
 use Rattle.address.specs.Given.{encode_address}
 use Rattle.address.specs.declared.SuaAddress.{SuaAddress}
@@ -96,7 +97,7 @@ read_back values p t held r o inside e =
     ap (tabulated (accepted l.count)) table
     ∙ ap (λ (a : Outcome ℕ). tabulated a (tabulate (accepted (map (moved p.start) ps)) t).table) (sym (moved_answer p.start l.count ps t alone.table known)) in
     let k = stored-records values (map (moved p.start) ps) t held l.count (inside_moved values p inside ps (others_inside y)) stored in
-    written_again y values held r l.address l.read l.recorded
+    written_again y (absent_in built_in v) values held r l.address l.read l.recorded
     (ap (records values held) (sym (length-map ps (moved p.start))) ∙ k.params ∙ ap accepted (values_moved values p inside ps (others_inside y)))
 
 -- What an accessor read is written again as its reading says.

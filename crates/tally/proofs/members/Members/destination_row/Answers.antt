@@ -15,10 +15,10 @@ pub returns-in-None : goal.returns-in-None
 returns-in-None c =
     let a = c.in_ok-address.address in
     ap accepted c.count.ensures.value
-    ∙ rw (← c.in_ok-address.ensures.value a refl) (row_kept c.args.self.now a _ (rw c.in-None.is at titled built_in _ _ _ c.title.ensures))
+    ∙ rw (← c.in_ok-address.ensures.value a refl) (row_kept c.args.self.now a _ (rw c.in-None.is at (titled built_in _ _ _ c.title.ensures)))
 
 pub returns-in-Some : goal.returns-in-Some
 returns-in-Some c =
     let a = c.in_ok-address.address in
     ap accepted c.title_row.ensures
-    ∙ rw (← c.in_ok-address.ensures.value a refl) (row_kept c.args.self.now a _ (rw c.in-Some.is at titled built_in _ _ _ c.title.ensures))
+    ∙ rw (← c.in_ok-address.ensures.value a refl) (row_kept c.args.self.now a _ (rw c.in-Some.is at (titled built_in _ _ _ c.title.ensures)))

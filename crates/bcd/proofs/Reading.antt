@@ -103,13 +103,15 @@ module _ (A : Alphabet) (xs : List ℕ) where
   reading_refused count h = rw (bounded_beyond xs (accepted (digits_in A xs count)) h)
 
   pub reading_done :
-      (count n : ℕ) (d : List ℕ)
+      (count n absent : ℕ) (d : List ℕ)
       → length xs ≤ most
       → n ≡ min count (2 * length xs)
+      → absent ≡ count - n
       → d ≡ digits_in A xs n
-      → accepted (record { digits = d ++ drop n (replicate 255 0); count = n; absent = count - n }) ≡ mapped (digits_record (absent_digits A xs count)) (read_digits A xs count)
+      → accepted (record { digits = d ++ drop n (replicate 255 0); count = n; absent = absent })
+      ≡ mapped (digits_record (absent_digits A xs count)) (read_digits A xs count)
   unfolding read_digits
-  reading_done count n d h e done =
+  reading_done count n absent d h e missing done =
       let same : digits_in A xs n ≡ digits_in A xs count = rw e (digits-most count) in
       let l : length (digits_in A xs n) ≡ n = digits-length n ∙ omega arith in
-      rw (bounded-within xs (accepted (digits_in A xs count)) h, ← same, done, l)
+      rw (bounded-within xs (accepted (digits_in A xs count)) h, ← same, done, l, missing)

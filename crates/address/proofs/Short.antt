@@ -1,20 +1,26 @@
 -- A title that ran short is read as the one that declares just the digits it brings, and so is an address with such titles.
 use Prim.Native.Nat.{ℕ}
-use mathlib.Core.Path.{◌≡◌, refl, sym, ap, ap₂, ◌∙◌}
+use mathlib.Core.Path.{◌≡◌, refl, sym, ap, ap₂, ◌∙◌, subst}
 use mathlib.Core.Bool.{Bool, true, false}
-use mathlib.Core.List.{List, [], ◌∷◌, map}
+use Rattle.std.specs.Prelude.{Option, None, Some, option_map, unwrap_or}
+use mathlib.Core.List.{List, [], ◌∷◌, ◌++◌, map}
 use native.Mathlib.Omega.{arith}
-use borrow.Author.Tests.{le-leb}
+use borrow.Author.Tests.{le-leb, eqb-true}
 use lib.Dec.{eqb, leb}
 use lib.ListN.{length, get_or, take, drop}
 use Rattle.std.proofs.lemmas.List.{length-set}
-use Rattle.bcd.specs.Outcome.{Outcome, accepted, refused, pick, after, mapped, demand, each}
-use Rattle.bcd.specs.Digits.{Alphabet, digits_in}
-use Rattle.bcd.proofs.Reading.{digits-length, digits-most}
+use Rattle.bcd.specs.Outcome.{Outcome, accepted, refused, pick, after, mapped, demand, accepted_or, each, All, Octets}
+use Rattle.bcd.specs.Digits.{Alphabet, Lawful, digits_in, write_digits}
+use Rattle.bcd.proofs.Outcomes.{accepted_inj, after_inv, mapped_inv, each_inv, all_append}
+use Rattle.bcd.proofs.Reading.{digits-length, digits-most, absent_lem}
 use Rattle.parameter.specs.Parameter.{Param, param, two_at, four_in}
 use Rattle.parameter.specs.Walk.{parameters}
-use Rattle.address.specs.Address.{Address, title_at, title_in, Piece, title, code, sub, other, four_octets, piece_in, routing_in, address_with, address_in, write_address, rewrite_address}
-use Rattle.address.specs.Absent.{absent_at, recounted, recounted_param, BringTheSame}
+use Rattle.parameter.proofs.RoundTrip.{round_trip}
+use Rattle.address.specs.Address.{Title, Address, title_at, title_in, title_octets, write_title, Piece, title, code, sub, other, four_octets, piece_in, later, last, routing_in, address_with, address_in, pieces, sub_param, rewrite_address}
+use Rattle.address.specs.Absent.{absent_at, title_value, absent_among, absent_in, recounted, recounted_param, BringTheSame}
+use Rattle.address.proofs.Titles.{digit-octets}
+use Rattle.address.proofs.SubParams.{PieceOf, is_title, is_code, is_sub, is_other, Came}
+use Rattle.address.proofs.Rewriting.{readable, written_inv, same-meaning}
 
 module _ (A : Alphabet) where
   -- as many digits as a count brings, when they are counted
@@ -28,6 +34,15 @@ module _ (A : Alphabet) where
   recounted_title (a ∷ b ∷ []) = refl
   recounted_title (a ∷ b ∷ c ∷ []) = refl
   recounted_title (a ∷ b ∷ c ∷ g ∷ []) = refl
+
+  recounted_again : (v : List ℕ) → recounted A (recounted A v) ≡ recounted A v
+  recounted_again (a ∷ b ∷ c ∷ g ∷ n ∷ v) =
+      ap (λ ds. a ∷ b ∷ c ∷ g ∷ length ds ∷ v) (digits_same (drop 3 v) n)
+  recounted_again [] = refl
+  recounted_again (a ∷ []) = refl
+  recounted_again (a ∷ b ∷ []) = refl
+  recounted_again (a ∷ b ∷ c ∷ []) = refl
+  recounted_again (a ∷ b ∷ c ∷ g ∷ []) = refl
 
   -- It brings all that it declares.
   pub recounted_whole : (v : List ℕ) → absent_at A (recounted A v) ≡ 0
@@ -92,5 +107,86 @@ module _ (A : Alphabet) where
 
   -- It is settled as the same value.
   pub short-settles-the-same : (tag : ℕ) (v w : List ℕ) → BringTheSame A v w → rewrite_address A tag v ≡ rewrite_address A tag w
-  unfolding rewrite_address
-  short-settles-the-same tag v w same = ap (λ o. after o (write_address A tag)) (short-reads-the-same v w same)
+  short-settles-the-same tag v w same = same-meaning A tag v w (short-reads-the-same v w same)
+
+  -- One title among the sub-parameters, as it came and with the count of the digits that it brings.
+  pub one_title :
+      (v w u : List ℕ) (before behind : List Param)
+      → take 4 v ≡ take 4 w
+      → parameters (drop 4 v) ≡ accepted (before ++ param 0x8001 u ∷ behind)
+      → parameters (drop 4 w) ≡ accepted (before ++ param 0x8001 (recounted A u) ∷ behind)
+      → BringTheSame A v w
+  one_title v w u before behind head pv pw =
+      record { head = head; params = rw (pv, pw) (ap accepted (among before)) }
+    where
+      among :
+          (ps : List Param)
+          → map (recounted_param A) (ps ++ param 0x8001 u ∷ behind) ≡ map (recounted_param A) (ps ++ param 0x8001 (recounted A u) ∷ behind)
+      among [] = rw (recounted_again u)
+      among (p ∷ ps) = ap (λ qs. recounted_param A p ∷ qs) (among ps)
+
+-- What is written brings all the digits that it declares.
+module _ (A : Alphabet) (L : Lawful A) where
+  title_whole : (t : Title) (w : List ℕ) → write_title A t ≡ accepted w → absent_at A w ≡ 0
+  unfolding write_title
+  title_whole t w e =
+      let (os, ho, made) = mapped_inv (title_octets t) (write_digits A t.digits) e in
+      let n = length t.digits in
+      ap (absent_at A) (sym made) ∙ absent_lem A os n ∙ omega (arith, (digit-octets A L t.digits os ho).count)
+
+  -- a sub-parameter that is no title, or one of which nothing is absent
+  abbrev Whole : Param → Type 0
+  Whole q = q.tag ≡ 0x8001 → absent_at A q.value ≡ 0
+
+  piece_whole : {p : Param} {x : Piece} (qs : List Param) → PieceOf A p x → sub_param A x ≡ accepted qs → All Whole qs
+  unfolding sub_param
+  piece_whole qs (is_title t h e) d =
+      let (w, hw, made) = mapped_inv (λ v. param 0x8001 v ∷ []) (write_title A t) d in
+      subst (All Whole) made ((λ k. title_whole t w hw), tt)
+  piece_whole qs (is_code h l) d = subst (All Whole) (accepted_inj d) ((λ k. omega (arith, k)), tt)
+  piece_whole qs (is_sub h l) d = subst (All Whole) (accepted_inj d) ((λ k. omega (arith, k)), tt)
+  piece_whole qs (is_other n m k) d = subst (All Whole) (accepted_inj d) ((λ t. absurd (n t)), tt)
+
+  pieces_whole : (xs : List Piece) (qs : List Param) → All (Came A) xs → each (sub_param A) xs ≡ accepted qs → All Whole qs
+  pieces_whole [] qs h e = subst (All Whole) (accepted_inj e) tt
+  pieces_whole (x ∷ xs) qs h e =
+      let (us, vs, hu, hv, j) = each_inv (sub_param A) x xs qs e in
+      subst (All Whole) j (all_append Whole us vs (piece_whole us h.0.is hu) (pieces_whole xs vs h.1 hv))
+
+  among_whole : (qs : List Param) → All Whole qs → absent_among A qs ≡ 0
+  among_whole qs h = none (last title_value qs) (go qs h)
+    where
+      None-or-whole : Option (List ℕ) → Type 0
+      None-or-whole None = Unit {0}
+      None-or-whole (Some w) = absent_at A w ≡ 0
+
+      none : (o : Option (List ℕ)) → None-or-whole o → unwrap_or (option_map (absent_at A) o) 0 ≡ 0
+      none None h = refl
+      none (Some w) h = h
+
+      of_two : (o r : Option (List ℕ)) → None-or-whole o → None-or-whole r → None-or-whole (later o r)
+      of_two None r a b = b
+      of_two (Some w) None a b = a
+      of_two (Some w) (Some u) a b = b
+
+      one : (q : Param) → Whole q → None-or-whole (title_value q)
+      one q h = by_tag (eqb q.tag 0x8001) (λ e. h (eqb-true q.tag 0x8001 e))
+        where
+          by_tag : (b : Bool) → (b ≡ true → absent_at A q.value ≡ 0) → None-or-whole (pick b (Some q.value) None)
+          by_tag true h = h refl
+          by_tag false h = tt
+
+      go : (qs : List Param) → All Whole qs → None-or-whole (last title_value qs)
+      go [] h = tt
+      go (q ∷ qs) h = of_two (title_value q) (last title_value qs) (one q h.0) (go qs h.1)
+
+  -- An address value as it is settled: no digit of its title is absent.
+  pub settled_whole : (tag : ℕ) (v w : List ℕ) → Octets v → rewrite_address A tag v ≡ accepted w → absent_in A w ≡ 0
+  unfolding absent_in rewrite_address
+  settled_whole tag v w o e =
+      let (a, ha, hw) = after_inv (address_in A v) _ e in
+      let r = readable A v a o ha in
+      let k = written_inv A tag a w hw in
+      ap (absent_in A) (sym k.octets)
+      ∙ ap (λ o. accepted_or 0 (mapped (absent_among A) o)) (round_trip k.params)
+      ∙ among_whole k.params (pieces_whole (pieces a) k.params r.came k.subs)

@@ -2,6 +2,7 @@
 pub mod Form
 pub mod HasForm
 pub mod HopCounters
+pub mod ShortTitles
 pub mod Standing
 pub mod Worked
 pub mod Steps

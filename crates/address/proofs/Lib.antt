@@ -30,3 +30,4 @@ pub mod Numbers
 pub mod Held
 pub mod Standing
 pub mod Short
+pub mod Worked

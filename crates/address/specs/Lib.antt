@@ -11,4 +11,5 @@ pub mod Again
 pub mod Lengths
 pub mod Facts
 pub mod Standing
+pub mod Worked
 pub mod Steps

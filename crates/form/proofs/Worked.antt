@@ -8,7 +8,7 @@ use Rattle.address.specs.Address.{title_in, write_title, piece_in, address_with,
 use Rattle.message.specs.Types.{from_class_type}
 use Rattle.message.specs.Message.{read_header, read_message, message_octets, write_message}
 use Rattle.form.specs.Form.{settled_param, settled}
-use Rattle.form.specs.Worked.{Holds, starred, unsettled, counters}
+use Rattle.form.specs.Worked.{Holds, starred, unsettled, counters, short_titles}
 
 pub worked : All Holds starred
 unfolding settled settled_param read_message read_header message_octets write_message from_class_type parameters places steps step_at headed two_at run_octets param_octets encode_param read_address address_in address_with rewrite_address write_address piece_in pieces sub_param indicator title_in write_title read_digits digits_in halves write_digits pack
@@ -21,3 +21,7 @@ worked_addresses = (refl, (refl, (refl, tt)))
 pub worked_counters : All Holds counters
 unfolding settled settled_param read_message read_header message_octets write_message from_class_type parameters places steps step_at headed two_at run_octets param_octets encode_param
 worked_counters = (refl, (refl, (refl, (refl, tt))))
+
+pub worked_short_titles : All Holds short_titles
+unfolding settled settled_param read_message read_header message_octets write_message from_class_type parameters places steps step_at headed two_at run_octets param_octets encode_param read_address address_in address_with rewrite_address write_address piece_in pieces sub_param indicator title_in write_title read_digits digits_in halves write_digits pack
+worked_short_titles = (refl, (refl, (refl, tt)))

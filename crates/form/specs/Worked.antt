@@ -1,5 +1,5 @@
--- The worked messages: the starred ones of document 01, S1 to S12, messages with both addresses, and messages with hop
--- counters.
+-- The worked messages: the starred ones of document 01, S1 to S12, messages with both addresses, messages with hop counters, and
+-- messages with a title that ran short.
 use Rattle.std.specs.Prelude.{ℕ, ◌≡◌, true, List, [], ◌∷◌, ◌++◌, take}
 use Rattle.std.specs.Prelude.{None, Some}
 use Rattle.bcd.specs.Outcome.{Outcome, accepted, refused}
@@ -110,4 +110,18 @@ counters =
     -- nothing but hop counters: of no octets, and of one octet without its padding
     ∷ settles (words (0x01000701 ∷ 0x00000011 ∷ 0x01010004 ∷ 0x01010005 ∷ []) ++ 0x0F ∷ []) (accepted (words (0x01000701 ∷ 0x00000008 ∷ [])))
     ∷ settles (words (0x01000701 ∷ 0x0000000C ∷ 0x01010008 ∷ [])) (refused 6 (0x0101 ∷ 8 ∷ 4 ∷ []))
+    ∷ []
+
+-- A CLDT whose source has a title that declares so many digits and brings the four of 21 03.
+abbrev pub declaring : (count : ℕ) → List ℕ
+declaring n =
+    words (0x01000701 ∷ 0x00000020 ∷ 0x01020018 ∷ 0x00010004 ∷ 0x8001000E ∷ 0x00000004 ∷ [])
+    ++ n ∷ 0 ∷ 1 ∷ 4 ∷ words (0x21030000 ∷ [])
+
+-- It settles as one that declares four (document 02, CR 7).
+abbrev pub short_titles : List Example
+short_titles =
+    settles (declaring 4) (accepted (declaring 4))
+    ∷ settles (declaring 5) (accepted (declaring 4))
+    ∷ settles (declaring 255) (accepted (declaring 4))
     ∷ []

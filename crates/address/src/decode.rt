@@ -18,8 +18,7 @@ use parameter::{Parameters, Place};
 impl<'a> Interpreted<'a> {
     // The record of the title, if there is one.
     fn title_record(&self) -> Result<Option<GlobalTitle>, Refusal>
-        ensures { outcome_of result
-            ≡ accepted (kept_record built_in self.now.value.now self.now.parts.title) }
+        ensures { outcome_of result ≡ accepted (kept_record built_in self.now.value.now self.now.parts.title) }
     {
         let Some(title) = self.title() else {
             return Ok(None);
@@ -29,7 +28,8 @@ impl<'a> Interpreted<'a> {
 
     // The record. The include bits are those of the address indicator, whether or not their parts are there.
     fn record(&self) -> Result<SuaAddress, Refusal>
-        ensures { outcome_of result ≡ mapped (address_record (absent_in built_in self.now.value.now)) (read_address built_in self.now.value.now) }
+        ensures { outcome_of result
+            ≡ mapped (address_record (absent_in built_in self.now.value.now)) (read_address built_in self.now.value.now) }
     {
         let bits = self.value[3];
         let include_gt = bits / 4 % 2 == 1;

@@ -22,7 +22,8 @@ abbrev pub absent_kept : Alphabet → List ℕ → Option Place → ℕ
 absent_kept A v k = unwrap_or (option_map (absent_at A) (kept_value v k)) 0
 
 module _ (A : Alphabet) where
-  value_holds : (v : List ℕ) (ps : List Place) → last title_value (map (valued v) ps) ≡ kept_value v (note_all nothing ps).title
+  -- The title's value that holds is the one that is kept.
+  pub value_holds : (v : List ℕ) (ps : List Place) → last title_value (map (valued v) ps) ≡ kept_value v (note_all nothing ps).title
   unfolding noted
   value_holds v ps =
       last_holds 0x8001 (valued v) title_value (λ p. (valued v p).value) (λ s. s.title)

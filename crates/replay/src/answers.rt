@@ -163,14 +163,15 @@ impl Answer for SuaMessage {
     }
 }
 
-// The count of digits, and all 255 places.
+// The count of digits, how many more are absent, and all 255 places.
 impl Answer for GtDigits {
     fn show(&self, line: &mut Line) {
-        self.count.show(line);
+        line.ok(&[self.count as u64, self.absent as u64]);
         line.octets(&self.digits);
     }
 
     fn show_refused(line: &mut Line) {
+        line.number(0);
         line.octets(&[0; 255]);
     }
 }
@@ -212,7 +213,7 @@ impl Answer for SuaAddress {
 // Stores the fields of a title; zeros where there is none.
 fn title(title: Option<&GlobalTitle>, line: &mut Line) {
     let Some(t) = title else {
-        line.numbers(&[0; 5]);
+        line.numbers(&[0; 6]);
         return line.octets(&[0; 255]);
     };
     line.numbers(&[
@@ -221,6 +222,7 @@ fn title(title: Option<&GlobalTitle>, line: &mut Line) {
         u64::from(t.numbering_plan),
         u64::from(t.nature_of_address),
         t.count as u64,
+        t.absent as u64,
     ]);
     line.octets(&t.digits);
 }

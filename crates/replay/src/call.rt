@@ -155,14 +155,16 @@ impl<'a> Call<'a> {
     }
 
     pub(crate) fn title(&mut self) -> GlobalTitle {
-        GlobalTitle::new(
+        let mut title = GlobalTitle::new(
             self.number(),
             self.number(),
             self.number(),
             self.number(),
             self.digits(),
             self.number(),
-        )
+        );
+        title.absent = self.number();
+        title
     }
 
     fn given_title(&mut self) -> Option<GlobalTitle> {

@@ -1,5 +1,7 @@
-//! The calls of crates/replay (docs/CALLS.md): how a line is written, and what the Rust answers to it.
+//! The calls of crates/replay (docs/CALLS.md): how a line is written, and what the Rust answers to it. The number of absent digits,
+//! which the Rust does not tell, is that of a plain reading.
 
+use crate::absent;
 use crate::oracle::*;
 use std::fmt::Write;
 use sua::address::{GlobalTitle, RoutingIndicator, SuaAddress};
@@ -190,9 +192,10 @@ impl<'a> Taken<'a> {
     fn buffer(&mut self) -> Vec<u8> {
         vec![HELD_OCTET; self.size()]
     }
+    /// A title's numbers and its digits. The Rust has no number of absent digits, and writing ignores it.
     fn title(&mut self) -> Title {
         let [gti, tt, np, noa] = [(); 4].map(|()| self.octet());
-        let count = self.number();
+        let [count, _] = [(); 2].map(|()| self.number());
         Title { gti, tt, np, noa, count, digits: array(self.bytes()) }
     }
     /// An address's numbers and its digits.
@@ -357,20 +360,21 @@ fn written(octets: Answer<Vec<u8>>, mut buffer: Vec<u8>) -> String {
     format!("{} {}", verdict(&answer), word(&buffer))
 }
 
-fn titled(title: Option<&GlobalTitle>) -> String {
+/// A title that was read, and how many of its digits are absent.
+fn titled(title: Option<&GlobalTitle>, absent: usize) -> String {
     match title {
         Some(t) => {
             let digits = t.digits.as_bytes();
             let [a, b, c, d] = [t.gti, t.translation_type, t.numbering_plan, t.nature_of_address];
-            format!("{a} {b} {c} {d} {} {}", digits.len(), word(&array(digits)))
+            format!("{a} {b} {c} {d} {} {absent} {}", digits.len(), word(&array(digits)))
         }
-        None => format!("0 0 0 0 0 {}", word(&[0; 255])),
+        None => format!("0 0 0 0 0 0 {}", word(&[0; 255])),
     }
 }
 
-/// What an address's reading answers, beside the table lent for its others.
-fn addressed(address: Answer<SuaAddress>, others: impl Fn() -> Vec<Place>, mut columns: Columns) -> String {
-    let stored = columns.store(address.as_ref().map(|_| others()).map_err(Clone::clone));
+/// What the reading of an address's value answers, beside the table lent for its others; the value starts at a position.
+fn addressed(address: Answer<SuaAddress>, value: &[u8], at: usize, mut columns: Columns) -> String {
+    let stored = columns.store(address.as_ref().map(|_| other_places(value, at)).map_err(Clone::clone));
     let (first, a) = match (&stored, &address) {
         (Ok(_), Ok(a)) => ("ok".into(), Some(a)),
         (Err(r), _) => (refused(r), None),
@@ -384,14 +388,14 @@ fn addressed(address: Answer<SuaAddress>, others: impl Fn() -> Vec<Place>, mut c
             u8::from(a.include_pc),
             u8::from(a.include_ssn),
             u8::from(a.global_title.is_some()),
-            titled(a.global_title.as_ref()),
+            titled(a.global_title.as_ref(), absent::of_address(value)),
             u8::from(a.point_code.is_some()),
             a.point_code.unwrap_or(0),
             u8::from(a.ssn.is_some()),
             a.ssn.unwrap_or(0),
             a.other.len()
         ),
-        None => format!("0 0 0 0 0 {} 0 0 0 0 0", titled(None)),
+        None => format!("0 0 0 0 0 {} 0 0 0 0 0", titled(None, 0)),
     };
     format!("{first} {fields} {}", columns.words())
 }
@@ -508,11 +512,12 @@ pub fn answer(call: &Call) -> String {
 fn digits(name: &str, t: &mut Taken) -> String {
     match name {
         "decode_gt_digits" => {
-            let (count, bytes) = (t.octet(), t.bytes());
-            let read = bounded(bytes.len()).map(|()| sua::bcd::decode_gt_digits(bytes, count.into()).into_bytes());
+            let (declared, bytes) = (t.octet(), t.bytes());
+            let read = bounded(bytes.len()).map(|()| sua::bcd::decode_gt_digits(bytes, declared.into()).into_bytes());
+            let absent = if read.is_ok() { absent::of_digits(bytes, declared) } else { 0 };
             let mut held = vec![0; 255];
             let answer = deliver(read, &mut held);
-            format!("{} {}", verdict(&answer), word(&held))
+            format!("{} {absent} {}", verdict(&answer), word(&held))
         }
         "encode_gt_digits" => {
             let buffer = t.buffer();
@@ -595,8 +600,8 @@ fn addresses(name: &str, t: &mut Taken) -> String {
             let value = t.bytes();
             let read = bounded(value.len()).and_then(|()| Ok(GlobalTitle::decode(value)?));
             match read {
-                Ok(title) => format!("ok {}", titled(Some(&title))),
-                Err(r) => format!("{} {}", refused(&r), titled(None)),
+                Ok(title) => format!("ok {}", titled(Some(&title), absent::of_title(value))),
+                Err(r) => format!("{} {}", refused(&r), titled(None, 0)),
             }
         }
         "title_encode" => {
@@ -610,7 +615,7 @@ fn addresses(name: &str, t: &mut Taken) -> String {
         }
         "address_decode" => {
             let (columns, value) = (t.rooms(), t.bytes());
-            addressed(read_address(value), || other_places(value, 0), columns)
+            addressed(read_address(value), value, 0, columns)
         }
         "address_encode" => {
             let (address, buffer, table, values) = (t.address(), t.buffer(), t.table(), t.bytes());
@@ -740,8 +745,8 @@ fn accessors(name: &str, t: &mut Taken) -> String {
                 let m = message(rs);
                 Ok(if source { m.source_address()? } else { m.destination_address()? })
             });
-            let others = || found.as_ref().map(|(p, at)| other_places(&p.value, at.1)).unwrap_or_default();
-            addressed(read, others, lent)
+            let (value, at) = found.as_ref().map_or((&[][..], 0), |(p, place)| (&p.value, place.1));
+            addressed(read, value, at, lent)
         }
     }
 }

@@ -182,7 +182,7 @@ impl Maker<'_> {
         }
         digits
     }
-    /// A title's numbers and digits; the count is that of the digits, or not.
+    /// A title's numbers and digits; the count is that of the digits, or not. Any number of absent digits stands behind it.
     fn title(&mut self) {
         for _ in 0..4 {
             self.any(8);
@@ -195,6 +195,7 @@ impl Maker<'_> {
             _ => digits.len() as u64,
         };
         self.number(count);
+        self.any(64);
         self.octets(digits);
     }
     fn address(&mut self, others: u64) {
@@ -344,7 +345,8 @@ impl Maker<'_> {
                 self.number(n);
             }
             "title_decode" => {
-                let title = messages::title(self.r, true);
+                let short = self.r.once_in(4);
+                let title = if short { messages::running_short(self.r, true, true) } else { messages::title(self.r, true) };
                 let n = if self.r.once_in(5) { self.r.below(title.len() + 1) } else { title.len() };
                 self.bounded(title[..n].to_vec());
             }
@@ -373,7 +375,8 @@ impl Maker<'_> {
                     let octets = messages::large_address(self.r);
                     return self.octets(octets);
                 }
-                let octets = messages::address(self.r, true, broken);
+                let titles = name == "address_decode" && self.r.once_in(4);
+                let octets = if titles { messages::two_titles(self.r, true) } else { messages::address(self.r, true, broken) };
                 self.bounded(octets);
             }
             "address_encode" => {
@@ -450,7 +453,8 @@ impl Maker<'_> {
     fn put_some(&mut self, list: &mut Vec<(u16, Vec<u8>)>, tag: u16) {
         for _ in 0..self.r.below(3) {
             let broken = self.r.once_in(3);
-            let value = messages::value(self.r, tag, true, broken);
+            let titles = matches!(tag, 0x0102 | 0x0103) && self.r.once_in(4);
+            let value = if titles { messages::two_titles(self.r, true) } else { messages::value(self.r, tag, true, broken) };
             let at = self.r.below(list.len() + 1);
             list.insert(at, (tag, value));
         }

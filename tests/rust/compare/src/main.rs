@@ -1,5 +1,6 @@
 //! Compares the port with the Rust by running both. tests/rust/run, dissect, record, bench and titles call it.
 
+mod absent;
 mod archive;
 mod bench;
 mod calls;

@@ -82,13 +82,49 @@ pub fn title(r: &mut Random, dirty: bool) -> Vec<u8> {
     out
 }
 
-/// An address value. Broken ones are refused by its reading.
-pub fn address(r: &mut Random, dirty: bool, broken: bool) -> Vec<u8> {
+/// A title's value that ran short, mostly by few digits, or that did not.
+pub fn running_short(r: &mut Random, dirty: bool, short: bool) -> Vec<u8> {
+    let mut out = title(r, dirty);
+    out.truncate(8 + 127);
+    let there = 2 * (out.len() - 8);
+    if short {
+        let most = 255 - there;
+        let more = if r.once_in(4) { most } else { most.min(4) };
+        out[4] = (there + 1 + r.below(more)) as u8;
+    } else {
+        out[4] = out[4].min(there as u8);
+    }
+    out
+}
+
+/// An address value of two titles, of which the first or the last ran short. Each may have another part behind it.
+pub fn two_titles(r: &mut Random, dirty: bool) -> Vec<u8> {
+    let mut out = address_head(r, dirty, false);
+    let first = r.once_in(2);
+    for short in [first, !first] {
+        let value = running_short(r, dirty, short);
+        out.extend(parameter(r, 0x8001, &value, dirty));
+        if r.once_in(2) {
+            let (tag, value) = (r.pick(&[0x8002, 0x8003, 0x8005]), r.octets(4));
+            out.extend(parameter(r, tag, &value, dirty));
+        }
+    }
+    out
+}
+
+/// The routing indicator and the address indicator of an address value.
+fn address_head(r: &mut Random, dirty: bool, broken: bool) -> Vec<u8> {
     let routing = if broken && r.once_in(6) { r.next() as u16 } else { r.below(5) as u16 };
     let mut out = routing.to_be_bytes().to_vec();
     let high = if dirty { r.octet() } else { 0 };
     let bits = if dirty { r.octet() } else { r.below(8) as u8 };
     out.extend([high, bits]);
+    out
+}
+
+/// An address value. Broken ones are refused by its reading.
+pub fn address(r: &mut Random, dirty: bool, broken: bool) -> Vec<u8> {
+    let mut out = address_head(r, dirty, broken);
     for _ in 0..r.below(5) {
         let other = tag(r);
         let tag = r.pick(&[0x8001, 0x8001, 0x8002, 0x8003, 0x8003, 0x8004, 0x8005, 0x8006, 0x0102, other]);

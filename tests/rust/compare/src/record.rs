@@ -45,6 +45,15 @@ fn worked() -> Vec<String> {
         "decode_gt_digits 3 x21f3",
         "decode_gt_digits 4 x21f3",
         "decode_gt_digits 9 x2103",
+        // Digits that are absent: one, behind an odd count; all; none.
+        "decode_gt_digits 3 x21",
+        "decode_gt_digits 1 x",
+        "decode_gt_digits 255 x",
+        "decode_gt_digits 4 x2143",
+        "title_decode x00000004090001042143",
+        // A title that ran short before a whole one, and behind it: the last holds.
+        "address_decode 0 0 0 x000100048001000d0000000403000104210000008001000e000000040400010421430000",
+        "address_decode 0 0 0 x000100048001000e0000000404000104214300008001000d000000040300010421000000",
         "encode_gt_digits 4 x3141",
         "encode_gt_digits 4 x3135353530313432",
         "encode_gt_digits 4 x",

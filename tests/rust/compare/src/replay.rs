@@ -1,14 +1,19 @@
 //! Calls through crates/replay, beside the Rust, line by line.
 
+use crate::absent::{shown, SHOWN};
 use crate::calls::{answer, Call};
 use crate::generate::{call, refusals, Sizes, CALLS};
 use crate::random::Random;
-use std::collections::BTreeSet;
+use crate::screen::kinds::{listed, texts, Kind};
+use std::collections::{BTreeMap, BTreeSet};
 use std::io::Write;
 use std::process::{Command, Stdio};
 
 /// The characters that the program reads in one run, at most.
 const MOST_TEXT: usize = 900_000;
+/// With so many calls or more, each function that shows a number of absent digits must show one above 0.
+const MANY: u64 = 10_000;
+const ABSENT: &str = "answers with absent digits";
 
 /// The lines that the program answers to calls, one for each.
 pub fn replay(lines: &[String]) -> Vec<String> {
@@ -69,6 +74,7 @@ fn differing(pairs: &[(String, String)], what: &str) -> usize {
 pub fn compare(count: u64, seed: u64) -> bool {
     let mut differences = 0;
     let mut chunk = Vec::new();
+    let mut absent: BTreeMap<Kind, u64> = BTreeMap::new();
     let mut unseen: BTreeSet<(&str, u64)> =
         CALLS.iter().flat_map(|(name, numbers)| numbers.iter().map(|n| (*name, *n)).chain([(*name, 0)])).collect();
     for i in 0..count {
@@ -78,6 +84,9 @@ pub fn compare(count: u64, seed: u64) -> bool {
         let expected = answer(&call);
         for n in refusals(name, &expected) {
             unseen.remove(&(name, n));
+        }
+        if shown(name, &expected) > 0 {
+            *absent.entry((ABSENT, name.into())).or_default() += 1;
         }
         chunk.push((marked(&call, &expected), expected));
         if chunk.len() == 5_000 || i + 1 == count {
@@ -89,6 +98,7 @@ pub fn compare(count: u64, seed: u64) -> bool {
         println!("calls: never answered: {unseen:?}");
         differences += 1;
     }
+    differences += listed("calls", vec![(ABSENT, texts(&SHOWN))], &absent, count >= MANY) as usize;
     println!("calls: {count} of {} functions, {differences} differences", CALLS.len());
     differences == 0
 }

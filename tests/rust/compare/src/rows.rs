@@ -172,10 +172,10 @@ fn long_address() -> String {
 }
 
 /// `has_title` and a title, where there is none.
-const NO_TITLE: &str = "0 0 0 0 0 0 x00*255";
+const NO_TITLE: &str = "0 0 0 0 0 0 0 x00*255";
 /// `with_ssn_pc(8, 1)` in a call, without and with one other.
-const PLAIN: &str = "2 0 1 1 0 0 0 0 0 0 1 1 1 8 0";
-const WITH_OTHER: &str = "2 0 1 1 0 0 0 0 0 0 1 1 1 8 1";
+const PLAIN: &str = "2 0 1 1 0 0 0 0 0 0 0 1 1 1 8 0";
+const WITH_OTHER: &str = "2 0 1 1 0 0 0 0 0 0 0 1 1 1 8 1";
 
 /// What reading an address answers with no table lent: routing and include bits, title, and the numbers behind it.
 fn taken(front: &str, title: &str, behind: &str) -> String {

@@ -8,7 +8,7 @@ fn bare(other: usize) -> SuaAddress {
 }
 
 /// The same in a call.
-const BARE: &str = "2 0 0 0 0 0 0 0 0 0 0 0 0 0 1";
+const BARE: &str = "2 0 0 0 0 0 0 0 0 0 0 0 0 0 0 1";
 
 /// An address value that is read: as it is written again, and as it is.
 fn read(input: &'static str, value: &'static str, said: &'static str) -> Row {
@@ -65,7 +65,7 @@ pub fn rows() -> Vec<Row> {
         .port(format!("address_decode 0 0 0 {}", long_address()), nothing("12 1048577"))
         .port(format!("rewritten_length 258 {}", long_address()), "refused 12 1048577"),
         row("1,048,577 octets of 0, read as a title", || GlobalTitle::decode(&vec![0; 1_048_577]), "title 0 ''")
-            .port("title_decode x00*1048577", "refused 12 1048577 0 0 0 0 0 x00*255"),
+            .port("title_decode x00*1048577", "refused 12 1048577 0 0 0 0 0 0 x00*255"),
         read(
             "a point code of five octets (`80 02 00 09 00 00 01 02 03`)",
             "x00020000800200090000010203",
@@ -101,7 +101,7 @@ pub fn rows() -> Vec<Row> {
         )
         .address(
             "x000200008001000cffffff040000010480030008ffffff08",
-            taken("2 0 0 0", "1 4 0 1 4 0 x00*255", "0 0 1 8 0"),
+            taken("2 0 0 0", "1 4 0 1 4 0 0 x00*255", "0 0 1 8 0"),
             "x000200008001000c00000004000001048003000800000008",
         ),
         refused(
@@ -109,7 +109,7 @@ pub fn rows() -> Vec<Row> {
             "x000200008001000b00000004000001",
             "refused 1 8 7",
         )
-        .port("title_decode x00000004000001", "refused 1 8 7 0 0 0 0 0 x00*255"),
+        .port("title_decode x00000004000001", "refused 1 8 7 0 0 0 0 0 0 x00*255"),
         read(
             "a title indicator of 5 (`80 01 00 0C 00 00 00 05 00 00 01 04`)",
             "x000200008001000c0000000500000104",
@@ -117,7 +117,7 @@ pub fn rows() -> Vec<Row> {
         )
         .address(
             "x000200008001000c0000000500000104",
-            taken("2 0 0 0", "1 5 0 1 4 0 x00*255", "0 0 0 0 0"),
+            taken("2 0 0 0", "1 5 0 1 4 0 0 x00*255", "0 0 0 0 0"),
             "x000200008001000c0000000500000104",
         ),
         read(
@@ -127,7 +127,7 @@ pub fn rows() -> Vec<Row> {
         )
         .address(
             "x000200008001000d000000040900010421",
-            taken("2 0 0 0", "1 4 0 1 4 2 x3132+00*253", "0 0 0 0 0"),
+            taken("2 0 0 0", "1 4 0 1 4 2 7 x3132+00*253", "0 0 0 0 0"),
             "x000200008001000d000000040200010421000000",
         ),
         row(
@@ -137,9 +137,9 @@ pub fn rows() -> Vec<Row> {
         )
         .port(format!("address_encode {BARE} 2 1 32773 1 0 1 65532 x x00*65532"), "refused 10 32773 65532 xeeee"),
         row("a title of 256 digits, written from its record", many_digits, "128 octets, count 0")
-            .port("title_encode 4 0 1 4 256 2 x31*255", "refused 11 256 xeeee")
+            .port("title_encode 4 0 1 4 256 0 2 x31*255", "refused 11 256 xeeee")
             .port("e164 256 2 x31*255", "refused 11 256 xeeee")
-            .port("with_gt 4 0 1 4 256 0 0 2 x31*255", "refused 11 256 xeeee"),
+            .port("with_gt 4 0 1 4 256 0 0 0 2 x31*255", "refused 11 256 xeeee"),
         row(
             "a table of no rows, for one other (`00 01 00 00 80 05 00 04`)",
             || SuaAddress::decode(&octets("x0001000080050004")),

@@ -22,7 +22,7 @@ fn titled(digits: &str) -> SuaAddress {
 
 /// An address in a call: a title of so many digits.
 fn title(count: usize) -> String {
-    format!("1 1 0 0 1 4 0 1 4 {count} 0 0 0 0 0")
+    format!("1 1 0 0 1 4 0 1 4 {count} 0 0 0 0 0 0")
 }
 
 /// `with_ssn_pc(8, 1)` as a parameter, without its tag.
@@ -106,7 +106,7 @@ pub fn rows() -> Vec<Row> {
             "1048580 octets",
         )
         .port(
-            cldt("2 0 1 1 0 0 0 0 0 0 1 1 1 8 16", PLAIN, "16 32773*16 16 0*16 16 65531*15 65449", "x x x00*65531 x x"),
+            cldt("2 0 1 1 0 0 0 0 0 0 0 1 1 1 8 16", PLAIN, "16 32773*16 16 0*16 16 65531*15 65449", "x x x00*65531 x x"),
             "refused 10 258 1048516 xeeee",
         ),
         row(
@@ -129,7 +129,7 @@ pub fn rows() -> Vec<Row> {
         .port(format!("cldt 0 0 0 0 0 84 {} {PLAIN} 0 0 0 0 0 0 x41 x x x x", title(1)), format!("ok 84 {capital}"))
         .port(
             format!("source_address 1 0 0 0 1 258 1 28 1 20 {capital}"),
-            taken("1 1 0 0", "1 4 0 1 4 1 x61+00*254", "0 0 0 0 0"),
+            taken("1 1 0 0", "1 4 0 1 4 1 0 x61+00*254", "0 0 0 0 0"),
         ),
         class_and_hop_written(class_and_hop_written(numbers, 9, 0), 9, 255),
         row(

@@ -1,5 +1,6 @@
 //! What kind of table a call of `screen` is given, read off its numbers and the accessors' answers. `contexts` shares some.
 
+use crate::absent::{of_title, titles};
 use crate::calls::{Call, SCREENED};
 use crate::generate::{refusals, wanted};
 use std::collections::BTreeMap;
@@ -17,6 +18,7 @@ const SHORT: &str = "under four octets";
 const SHORT_FIRST: &str = "under four octets, and a later one not";
 const REFUSED: [&str; 2] = ["source refused beside a good destination", "destination refused beside a good source"];
 const ADDRESSES: &str = "addresses";
+const RAN_SHORT: [&str; 2] = ["source's title ran short", "destination's title ran short"];
 
 /// A group of kinds, and the kind in it.
 pub type Kind = (&'static str, String);
@@ -43,6 +45,8 @@ pub fn groups() -> Vec<(&'static str, Vec<String>)> {
     ];
     let addresses = ["both good", "both refused", "source with others", "destination with others", "both with others"];
     let refused = || REFUSALS.iter().map(u64::to_string).collect();
+    let short =
+        ["by an odd count", "by an even count", "the first of two alone", "the last of two alone", "beside the other's"];
     vec![
         (TABLES, texts(&tables)),
         (OUTSIDE, [by_count(), texts(&outside)].concat()),
@@ -52,6 +56,8 @@ pub fn groups() -> Vec<(&'static str, Vec<String>)> {
         (REFUSED[0], refused()),
         (REFUSED[1], refused()),
         (ADDRESSES, texts(&addresses)),
+        (RAN_SHORT[0], texts(&short)),
+        (RAN_SHORT[1], texts(&short)),
     ]
 }
 
@@ -152,7 +158,7 @@ pub fn kinds(call: &Call, answers: &[String]) -> Vec<Kind> {
         return kinds;
     }
     match table.outside().as_slice() {
-        [] => [whole(&table), fields(&table), addresses(answers)].concat(),
+        [] => [whole(&table), fields(&table), addresses(answers), ran_short(&table, answers)].concat(),
         [row] => record_outside(&table, *row),
         _ => Vec::new(),
     }
@@ -244,4 +250,34 @@ fn addresses(answers: &[String]) -> Vec<Kind> {
         _ => {}
     }
     kinds
+}
+
+/// The titles of an address that its accessor does not refuse.
+fn titles_in<'a>(table: &Table<'a>, name: &str, answer: &str) -> Vec<&'a [u8]> {
+    let first = (0..table.count as usize).find(|row| table.tag(*row) == wanted(name));
+    match first.and_then(|row| table.value(row)) {
+        Some(value) if answer.starts_with("ok") => titles(value),
+        _ => Vec::new(),
+    }
+}
+
+/// How titles of the two addresses ran short, of which the last holds.
+fn ran_short(table: &Table, answers: &[String]) -> Vec<Kind> {
+    let both = [5, 6].map(|i| titles_in(table, SCREENED[i], &answers[i]));
+    let is_short = [0, 1].map(|i| both[i].last().is_some_and(|title| of_title(title) > 0));
+    let of = |i: usize| {
+        let (short, odd) = (is_short[i], both[i].last().is_some_and(|title| title[4] % 2 == 1));
+        let absent: Vec<usize> = both[i].iter().map(|title| of_title(title)).collect();
+        holding(
+            RAN_SHORT[i],
+            &[
+                ("by an odd count", short && odd),
+                ("by an even count", short && !odd),
+                ("the first of two alone", matches!(absent[..], [(1..), 0])),
+                ("the last of two alone", matches!(absent[..], [0, (1..)])),
+                ("beside the other's", short && is_short[1 - i]),
+            ],
+        )
+    };
+    [of(0), of(1)].concat()
 }

@@ -60,6 +60,7 @@ fn value(r: &mut Random, tag: u16) -> Vec<u8> {
     match (tag, r.below(8)) {
         (0x0102 | 0x0103, 0) => many_others(r),
         (0x0102 | 0x0103, 1 | 2) => messages::address(r, true, true),
+        (0x0102 | 0x0103, 3) => messages::two_titles(r, true),
         (0x0102 | 0x0103, _) => messages::address(r, true, false),
         (_, choice) => {
             let n = match choice {

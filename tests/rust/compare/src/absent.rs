@@ -1,0 +1,56 @@
+//! How many declared digits of a title are absent (document 02, CR 7), which the Rust does not tell: a plain reading of octets, and
+//! what answers show.
+
+use crate::calls::{BETWEEN, SCREENED};
+
+/// How many of the declared digits octets do not have. Two digits stand in an octet.
+pub fn of_digits(octets: &[u8], declared: u8) -> usize {
+    (0..usize::from(declared)).filter(|digit| octets.get(digit / 2).is_none()).count()
+}
+
+/// The same of a title's value: three reserved octets, indicator, declared digits, three descriptors, octets of digits.
+pub fn of_title(value: &[u8]) -> usize {
+    of_digits(&value[8..], value[4])
+}
+
+/// The values of the titles of an address's value, which is not refused.
+pub fn titles(value: &[u8]) -> Vec<&[u8]> {
+    let mut titles = Vec::new();
+    let mut left = &value[4..];
+    while let [tag_high, tag_low, high, low, behind @ ..] = left {
+        let length = 256 * usize::from(*high) + usize::from(*low) - 4;
+        if [*tag_high, *tag_low] == [0x80, 0x01] {
+            titles.push(&behind[..length]);
+        }
+        left = behind.get((length + 3) / 4 * 4..).unwrap_or(&[]);
+    }
+    titles
+}
+
+/// The same of an address's value, which is not refused: of its last title; 0 where it has none.
+pub fn of_address(value: &[u8]) -> usize {
+    titles(value).last().map_or(0, |title| of_title(title))
+}
+
+/// The calls whose answers show the number.
+pub const SHOWN: [&str; 6] =
+    ["decode_gt_digits", "title_decode", "address_decode", "source_address", "destination_address", "screen"];
+
+/// The number that an answer shows, the greatest where it shows several.
+pub fn shown(name: &str, answer: &str) -> usize {
+    let place = match name {
+        "decode_gt_digits" => 2,
+        "title_decode" => 6,
+        "address_decode" | "source_address" | "destination_address" => 11,
+        "screen" => {
+            let parts = answer.split(BETWEEN).zip(SCREENED);
+            return parts.map(|(part, accessor)| shown(accessor, part)).max().unwrap_or(0);
+        }
+        _ => return 0,
+    };
+    let mut words = answer.split(' ');
+    match words.next() {
+        Some("ok") => words.nth(place - 1).and_then(|word| word.parse().ok()).expect("a number"),
+        _ => 0,
+    }
+}

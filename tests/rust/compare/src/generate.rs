@@ -274,8 +274,13 @@ impl Maker<'_> {
     fn make(&mut self, name: &str) {
         match name {
             "decode_gt_digits" => {
-                self.any(8);
                 let n = self.r.below(12);
+                if self.r.once_in(3) {
+                    let near = 2 * n + self.r.below(4);
+                    self.number(near as u64);
+                } else {
+                    self.any(8);
+                }
                 let octets = self.r.octets(n);
                 self.bounded(octets);
             }
@@ -375,7 +380,7 @@ impl Maker<'_> {
                     let octets = messages::large_address(self.r);
                     return self.octets(octets);
                 }
-                let titles = name == "address_decode" && self.r.once_in(4);
+                let titles = name == "address_decode" && self.r.once_in(3);
                 let octets = if titles { messages::two_titles(self.r, true) } else { messages::address(self.r, true, broken) };
                 self.bounded(octets);
             }
@@ -453,7 +458,7 @@ impl Maker<'_> {
     fn put_some(&mut self, list: &mut Vec<(u16, Vec<u8>)>, tag: u16) {
         for _ in 0..self.r.below(3) {
             let broken = self.r.once_in(3);
-            let titles = matches!(tag, 0x0102 | 0x0103) && self.r.once_in(4);
+            let titles = matches!(tag, 0x0102 | 0x0103) && self.r.once_in(2);
             let value = if titles { messages::two_titles(self.r, true) } else { messages::value(self.r, tag, true, broken) };
             let at = self.r.below(list.len() + 1);
             list.insert(at, (tag, value));

@@ -8,7 +8,7 @@ pub fn of_digits(octets: &[u8], declared: u8) -> usize {
     (0..usize::from(declared)).filter(|digit| octets.get(digit / 2).is_none()).count()
 }
 
-/// The same of a title's value: three reserved octets, indicator, declared digits, three descriptors, octets of digits.
+/// The same of a title's value, which is not refused: three reserved octets, indicator, count of digits, three descriptors, digits.
 pub fn of_title(value: &[u8]) -> usize {
     of_digits(&value[8..], value[4])
 }

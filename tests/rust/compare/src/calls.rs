@@ -195,7 +195,7 @@ impl<'a> Taken<'a> {
     /// A title's numbers and its digits. The Rust has no number of absent digits, and writing ignores it.
     fn title(&mut self) -> Title {
         let [gti, tt, np, noa] = [(); 4].map(|()| self.octet());
-        let [count, _] = [(); 2].map(|()| self.number());
+        let (count, _absent) = (self.number(), self.number());
         Title { gti, tt, np, noa, count, digits: array(self.bytes()) }
     }
     /// An address's numbers and its digits.

@@ -380,8 +380,8 @@ impl Maker<'_> {
                     let octets = messages::large_address(self.r);
                     return self.octets(octets);
                 }
-                let titles = name == "address_decode" && self.r.once_in(3);
-                let octets = if titles { messages::two_titles(self.r, true) } else { messages::address(self.r, true, broken) };
+                let two = name == "address_decode" && self.r.once_in(3);
+                let octets = if two { messages::two_titles(self.r, true) } else { messages::address(self.r, true, broken) };
                 self.bounded(octets);
             }
             "address_encode" => {
@@ -458,8 +458,8 @@ impl Maker<'_> {
     fn put_some(&mut self, list: &mut Vec<(u16, Vec<u8>)>, tag: u16) {
         for _ in 0..self.r.below(3) {
             let broken = self.r.once_in(3);
-            let titles = matches!(tag, 0x0102 | 0x0103) && self.r.once_in(2);
-            let value = if titles { messages::two_titles(self.r, true) } else { messages::value(self.r, tag, true, broken) };
+            let two = matches!(tag, 0x0102 | 0x0103) && self.r.once_in(2);
+            let value = if two { messages::two_titles(self.r, true) } else { messages::value(self.r, tag, true, broken) };
             let at = self.r.below(list.len() + 1);
             list.insert(at, (tag, value));
         }

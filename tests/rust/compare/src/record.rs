@@ -15,7 +15,7 @@ const SHORT: usize = 900;
 /// The same, where they show a refusal that nothing shorter showed.
 const LONG: usize = 60_000;
 
-/// Document 01's worked messages, pairs and indicators in full, and routing contexts in a set.
+/// Document 01's worked messages, pairs and indicators in full, titles that ran short, and routing contexts in a set.
 fn worked() -> Vec<String> {
     let asp = "0100030100000008";
     let messages = [
@@ -45,7 +45,7 @@ fn worked() -> Vec<String> {
         "decode_gt_digits 3 x21f3",
         "decode_gt_digits 4 x21f3",
         "decode_gt_digits 9 x2103",
-        // Digits that are absent: one, behind an odd count; all; none.
+        // Absent are one digit of an odd count, all of one, all of 255, and none.
         "decode_gt_digits 3 x21",
         "decode_gt_digits 1 x",
         "decode_gt_digits 255 x",

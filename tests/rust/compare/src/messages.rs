@@ -97,7 +97,7 @@ pub fn running_short(r: &mut Random, dirty: bool, short: bool) -> Vec<u8> {
     out
 }
 
-/// An address value of two titles, of which the first or the last ran short. Each may have another part behind it.
+/// An address value of two titles, of which one, the first or the last, ran short. Each may have another part behind it.
 pub fn two_titles(r: &mut Random, dirty: bool) -> Vec<u8> {
     let mut out = address_head(r, dirty, false);
     let first = r.once_in(2);

@@ -15,6 +15,18 @@ const SHORT: usize = 900;
 /// The same, where they show a refusal that nothing shorter showed.
 const LONG: usize = 60_000;
 
+/// Absent digits: one of three; all of one and of 255; none of four; five of a title's nine; and of addresses with a title that ran
+/// short and one that did not, of which the last holds.
+const SHORT_TITLES: [&str; 7] = [
+    "decode_gt_digits 3 x21",
+    "decode_gt_digits 1 x",
+    "decode_gt_digits 255 x",
+    "decode_gt_digits 4 x2143",
+    "title_decode x00000004090001042143",
+    "address_decode 0 0 0 x000100048001000d0000000403000104210000008001000e000000040400010421430000",
+    "address_decode 0 0 0 x000100048001000e0000000404000104214300008001000d000000040300010421000000",
+];
+
 /// Document 01's worked messages, pairs and indicators in full, titles that ran short, and routing contexts in a set.
 fn worked() -> Vec<String> {
     let asp = "0100030100000008";
@@ -45,15 +57,6 @@ fn worked() -> Vec<String> {
         "decode_gt_digits 3 x21f3",
         "decode_gt_digits 4 x21f3",
         "decode_gt_digits 9 x2103",
-        // Absent are one digit of an odd count, all of one, all of 255, and none.
-        "decode_gt_digits 3 x21",
-        "decode_gt_digits 1 x",
-        "decode_gt_digits 255 x",
-        "decode_gt_digits 4 x2143",
-        "title_decode x00000004090001042143",
-        // A title that ran short before a whole one, and behind it: the last holds.
-        "address_decode 0 0 0 x000100048001000d0000000403000104210000008001000e000000040400010421430000",
-        "address_decode 0 0 0 x000100048001000e0000000404000104214300008001000d000000040300010421000000",
         "encode_gt_digits 4 x3141",
         "encode_gt_digits 4 x3135353530313432",
         "encode_gt_digits 4 x",
@@ -66,6 +69,7 @@ fn worked() -> Vec<String> {
     ] {
         lines.push(line.replacen("01 02", "0102", 1));
     }
+    lines.extend(SHORT_TITLES.map(String::from));
     // Contexts 7 and 9: both in the set, one, both by their low halves alone; an unfinished group; 7 by itself; no octets.
     for (length, set) in [(8, "2 9 7"), (8, "1 7"), (8, "1 9"), (8, "2 65543 65545"), (7, "2 7 9"), (4, "1 7"), (0, "1 7")] {
         lines.push(format!("contexts_in 1 1 6 1 0 1 {length} {set} x0000000700000009"));

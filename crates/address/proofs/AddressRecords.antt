@@ -13,21 +13,20 @@ use Rattle.bcd.proofs.Outcomes.{accepted_inj}
 use Rattle.parameter.specs.Parameter.{Param, two_at}
 use Rattle.parameter.specs.Walk.{valued, parameters}
 use Rattle.parameter.specs.declared.Place.{Place}
-use Rattle.parameter.proofs.Structure.{places-parameters}
-use Rattle.address.specs.Address.{Title, Address, title_at, last, address_with, bit, routing_in, read_address}
+use Rattle.address.specs.Address.{Title, Address, last, address_with, bit, routing_in, read_address}
 use Rattle.address.specs.Records.{routing_value, address_of, title_of}
 use Rattle.address.specs.Titles.{record_of}
-use Rattle.address.specs.Absent.{absent_at, title_value, absent_in}
+use Rattle.address.specs.Absent.{record_at, title_value, absent_in}
 use Rattle.address.specs.Steps.Kept.{kept_record}
 use Rattle.address.specs.Listing.{other_places, routing_named, address_record}
-use Rattle.address.specs.Parts.{kept_value, kept_title, kept_code, kept_sub}
+use Rattle.address.specs.Parts.{kept_title, kept_code, kept_sub}
 use Rattle.address.specs.Steps.Plan.{HeldIn, Read}
 use Rattle.address.specs.declared.GlobalTitle.{GlobalTitle}
 use Rattle.address.specs.declared.RoutingIndicator.{RoutingIndicator}
 use Rattle.address.specs.declared.SuaAddress.{SuaAddress}
 use Rattle.address.specs.declared.parts.Parts.{Parts}
 use Rattle.address.proofs.Keeping.{value_at}
-use Rattle.address.proofs.Absent.{absent_kept, value_holds, absent_known}
+use Rattle.address.proofs.Absent.{params_known, value_holds, absent_kept, absent_known}
 use Rattle.address.proofs.Interpreting.{title_holds, code_holds, sub_holds, others_hold}
 use Rattle.address.proofs.Interpreted.{address, read_whole, accepted_read, title_kept}
 use Rattle.address.proofs.Others.{count_known}
@@ -107,22 +106,19 @@ title_back absent (Some t) = ap Some (record_back absent t)
 pub address_back : (absent : ℕ) (a : Address) → a.routing ≤ 4 → address_of (address_record absent a) a.others ≡ a
 address_back absent a h = rw (named_value a.routing h, title_back absent a.title)
 
--- The title of the record is that of the value of the last title's sub-parameter, digits and absent ones alike.
+-- The title of the record is what the value of the last title's sub-parameter is read as, digits and absent ones alike.
 pub title_of_last :
     (v : List ℕ) (a : Address)
     → Octets v
     → read_address built_in v ≡ accepted a
     → (ps : List Param)
     × (parameters (drop 4 v) ≡ accepted ps)
-    × ((address_record (absent_in built_in v) a).global_title
-    ≡ option_map (λ w. record_of (absent_at built_in w) (title_at built_in w)) (last title_value ps))
+    × ((address_record (absent_in built_in v) a).global_title ≡ option_map (record_at built_in) (last title_value ps))
 title_of_last v a o e =
-    let (s, r) = accepted_read o e in
-    let ps = r.known.places in
-    let kept = value_holds built_in v ps ∙ ap (λ (s : Parts). kept_value v s.title) (sym r.known.parts) in (
-      map (valued v) ps,
-      sym (places-parameters v 4) ∙ ap (mapped (map (valued v))) r.known.walked,
+    let (s, r) = accepted_read o e in (
+      map (valued v) r.known.places,
+      params_known r,
       ap (option_map (record_of (absent_in built_in v))) (sym (title_kept r a e))
           ∙ kept_recorded r
-          ∙ ap (option_map (λ w. record_of (absent_at built_in w) (title_at built_in w))) (sym kept),
+          ∙ ap (option_map (record_at built_in)) (sym (value_holds r)),
     )

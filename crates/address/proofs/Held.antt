@@ -15,7 +15,7 @@ use Rattle.parameter.specs.declared.Place.{Place}
 use Rattle.parameter.proofs.Records.{value-length}
 use Rattle.address.specs.Address.{title_at, title_in, read_title}
 use Rattle.address.specs.Titles.{record_of}
-use Rattle.address.specs.Absent.{absent_at}
+use Rattle.address.specs.Absent.{absent_at, record_at}
 use Rattle.address.specs.Parts.{kept_value, kept_title}
 use Rattle.address.specs.declared.interpret.TitleValue.{TitleValue}
 use Rattle.address.specs.Steps.Plan.{HeldIn, Read}
@@ -47,26 +47,22 @@ lies v least o p held e =
     let l = value-length v p h.0 in
     record { inside = h.0; size = l; enough = omega (arith, h.1) }
 
--- The title that is kept, where its octets are.
+-- What `title` hands out holds the octets of the title that is kept, and so is read as it.
 pub titled :
     (A : Alphabet) (v : List ℕ) (o : Option TitleValue) (k : Option Place)
     → option_map (λ (t : TitleValue). t.octets.now) o ≡ kept_value v k
     → option_map (λ (t : TitleValue). title_at A t.octets.now) o ≡ kept_title A v k
-titled A v o k e = sym (through o) ∙ ap (option_map (title_at A)) e ∙ back k
+titled A v o k e = sym (through o) ∙ ap (option_map (title_at A)) e
   where
     through : (o : Option TitleValue) → option_map (title_at A) (option_map (λ (t : TitleValue). t.octets.now) o) ≡ option_map (λ (t : TitleValue). title_at A t.octets.now) o
     through None = refl
     through (Some t) = refl
 
-    back : (k : Option Place) → option_map (title_at A) (kept_value v k) ≡ kept_title A v k
-    back None = refl
-    back (Some p) = refl
-
 -- A title's octets are read without refusal, as a record with how many digits are absent.
 pub title_recorded :
     (t : TitleValue)
     → mapped (record_of (absent_at built_in t.octets.now)) (read_title built_in t.octets.now)
-    ≡ accepted (record_of (absent_at built_in t.octets.now) (title_at built_in t.octets.now))
+    ≡ accepted (record_at built_in t.octets.now)
 unfolding read_title title_in
 title_recorded t =
     let v = t.octets.now in

@@ -147,11 +147,11 @@ later-later (Some x) None c = refl
 later-later (Some x) (Some y) None = refl
 later-later (Some x) (Some y) (Some z) = refl
 
--- Of those of a tag the last one is kept, for any tag.
-module _ {X Y : Type 0} (tag : ℕ) (piece_of : Place → Y) (select : Y → Option X) (part : Place → X) (field : Parts → Option Place)
-    (picks : (p : Place) → select (piece_of p) ≡ pick (eqb p.tag tag) (Some (part p)) None)
+-- Of what is read at places of a tag the last one is kept, for any tag: a piece, or a value.
+module _ {X Y : Type 0} (tag : ℕ) (read_at : Place → Y) (select : Y → Option X) (part : Place → X) (field : Parts → Option Place)
+    (picks : (p : Place) → select (read_at p) ≡ pick (eqb p.tag tag) (Some (part p)) None)
     (keeps : (s : Parts) (p : Place) → field (noted s p) ≡ pick (eqb p.tag tag) (Some p) (field s)) where
-  holds_one : (s : Parts) (p : Place) → later (option_map part (field s)) (select (piece_of p)) ≡ option_map part (field (noted s p))
+  holds_one : (s : Parts) (p : Place) → later (option_map part (field s)) (select (read_at p)) ≡ option_map part (field (noted s p))
   holds_one s p = rw (picks p, keeps s p) (go (eqb p.tag tag) (field s))
     where
       go : (t : Bool) (k : Option Place) → later (option_map part k) (pick t (Some (part p)) None) ≡ option_map part (pick t (Some p) k)
@@ -160,7 +160,7 @@ module _ {X Y : Type 0} (tag : ℕ) (piece_of : Place → Y) (select : Y → Opt
       go false None = refl
       go false (Some k) = refl
 
-  pub last_holds : (s : Parts) (ps : List Place) → later (option_map part (field s)) (last select (map piece_of ps)) ≡ option_map part (field (note_all s ps))
+  pub last_holds : (s : Parts) (ps : List Place) → later (option_map part (field s)) (last select (map read_at ps)) ≡ option_map part (field (note_all s ps))
   unfolding note_all
   last_holds s [] = go (field s)
     where
@@ -168,6 +168,6 @@ module _ {X Y : Type 0} (tag : ℕ) (piece_of : Place → Y) (select : Y → Opt
       go None = refl
       go (Some k) = refl
   last_holds s (p ∷ ps) =
-      later-later (option_map part (field s)) (select (piece_of p)) (last select (map piece_of ps))
-      ∙ ap (λ o. later o (last select (map piece_of ps))) (holds_one s p)
+      later-later (option_map part (field s)) (select (read_at p)) (last select (map read_at ps))
+      ∙ ap (λ o. later o (last select (map read_at ps))) (holds_one s p)
       ∙ last_holds (noted s p) ps

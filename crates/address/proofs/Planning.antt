@@ -24,7 +24,7 @@ use Rattle.parameter.proofs.RoundTrip.{run_length-append}
 use Rattle.parameter.proofs.Reading.{parameters-room}
 use Rattle.address.specs.Address.{Title, Piece, title_octets, write_title, title, code, sub, other, present, sub_param}
 use Rattle.address.specs.Parts.{nothing, noted, note_all, sooner}
-use Rattle.address.specs.Parts.{kept_title, kept_code, kept_sub}
+use Rattle.address.specs.Parts.{kept_value, kept_title, kept_code, kept_sub}
 use Rattle.address.specs.Steps.Kept.{kept_pieces}
 use Rattle.address.specs.Listing.{other_places}
 use Rattle.address.specs.Steps.Plan.{HeldIn, Walked}
@@ -202,6 +202,11 @@ pub map-some : {X Y : Type 0} (f : X → Y) (o : Option X) → is_some (option_m
 map-some f None = refl
 map-some f (Some x) = refl
 
+-- what is told of the octets of what is kept is there where it is
+pub kept-some : {X : Type 0} (f : List ℕ → X) (v : List ℕ) (k : Option Place) → is_some (option_map f (kept_value v k)) ≡ is_some k
+kept-some f v None = refl
+kept-some f v (Some p) = refl
+
 -- A point code or an SSN takes eight octets.
 pub four-length : (f : ℕ → Param) → ((n : ℕ) → length (f n).value ≡ 4) → (o : Option ℕ) → run_length (param_of f o) ≡ pick (is_some o) 8 0
 unfolding run_length
@@ -255,9 +260,8 @@ module _ (v : List ℕ) (s : Parts) (ps : List Place) where
   pub rest-length :
       run_length rest ≡ pick (is_some s.code) 8 0 + (pick (is_some s.ssn) 8 0 + run_length (map (valued v) (other_places ps)))
   rest-length =
-      let c = map-some (λ (p : Place). four_in (valued v p).value) s.code in
-      let u = map-some (λ (p : Place). get_or (valued v p).value 3 0) s.ssn in
-      behind-length (kept_code v s.code) (kept_sub v s.ssn) (map (valued v) (other_places ps)) ∙ rw (c, u) refl
+      behind-length (kept_code v s.code) (kept_sub v s.ssn) (map (valued v) (other_places ps))
+      ∙ rw (kept-some four_in v s.code, kept-some (λ w. get_or w 3 0) v s.ssn) refl
 
   pub kept-written :
       (A : Alphabet) (qs : List Param)

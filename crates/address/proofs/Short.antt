@@ -1,18 +1,20 @@
--- A title that ran short is read as the one that declares just the digits it brings, and so is an address with such titles.
-use Prim.Native.Nat.{ℕ}
+-- A title that ran short is read as the one with the count of the digits that it brings, and so is an address with such titles;
+-- and what is written brings all the digits that it declares.
+use Prim.Native.Nat.{ℕ, ◌-◌}
 use mathlib.Core.Path.{◌≡◌, refl, sym, ap, ap₂, ◌∙◌, subst}
 use mathlib.Core.Bool.{Bool, true, false}
+use mathlib.Core.Logic.{⊎_elim}
 use Rattle.std.specs.Prelude.{Option, None, Some, option_map, unwrap_or}
 use mathlib.Core.List.{List, [], ◌∷◌, ◌++◌, map}
 use native.Mathlib.Omega.{arith}
 use borrow.Author.Tests.{le-leb, eqb-true}
 use lib.Dec.{eqb, leb}
-use lib.ListN.{length, get_or, take, drop}
-use Rattle.std.proofs.lemmas.List.{length-set}
+use lib.ListN.{length, get_or, set, take, drop, length-drop, get_or-eq_default}
+use Rattle.std.proofs.lemmas.List.{length-set, get_or-set_same, get_or-set_other, set-set, drop-set-lt}
 use Rattle.bcd.specs.Outcome.{Outcome, accepted, refused, pick, after, mapped, demand, accepted_or, each, All, Octets}
 use Rattle.bcd.specs.Digits.{Alphabet, Lawful, digits_in, write_digits}
-use Rattle.bcd.proofs.Outcomes.{accepted_inj, after_inv, mapped_inv, each_inv, all_append}
-use Rattle.bcd.proofs.Reading.{digits-length, digits-most, absent_lem}
+use Rattle.bcd.proofs.Outcomes.{le_or_lt, accepted_inj, after_inv, mapped_inv, each_inv, all_append}
+use Rattle.bcd.proofs.Reading.{digits-length, digits-most, absent-octets}
 use Rattle.parameter.specs.Parameter.{Param, param, two_at, four_in}
 use Rattle.parameter.specs.Walk.{parameters}
 use Rattle.parameter.proofs.RoundTrip.{round_trip}
@@ -23,40 +25,40 @@ use Rattle.address.proofs.SubParams.{PieceOf, is_title, is_code, is_sub, is_othe
 use Rattle.address.proofs.Rewriting.{readable, written_inv, same-meaning}
 
 module _ (A : Alphabet) where
-  -- as many digits as a count brings, when they are counted
+  -- the digits that a count brings, by their own number
   digits_same : (xs : List ℕ) (count : ℕ) → digits_in A xs (length (digits_in A xs count)) ≡ digits_in A xs count
   digits_same xs count = ap (digits_in A xs) (digits-length A xs count) ∙ digits-most A xs count
 
-  recounted_title : (v : List ℕ) → title_at A (recounted A v) ≡ title_at A v
-  recounted_title (a ∷ b ∷ c ∷ g ∷ n ∷ v) = rw (digits_same (drop 3 v) n)
-  recounted_title [] = refl
-  recounted_title (a ∷ []) = refl
-  recounted_title (a ∷ b ∷ []) = refl
-  recounted_title (a ∷ b ∷ c ∷ []) = refl
-  recounted_title (a ∷ b ∷ c ∷ g ∷ []) = refl
+  module _ (v : List ℕ) where
+    abbrev n : ℕ
+    n = length (title_at A v).digits
 
-  recounted_again : (v : List ℕ) → recounted A (recounted A v) ≡ recounted A v
-  recounted_again (a ∷ b ∷ c ∷ g ∷ n ∷ v) =
-      ap (λ ds. a ∷ b ∷ c ∷ g ∷ length ds ∷ v) (digits_same (drop 3 v) n)
-  recounted_again [] = refl
-  recounted_again (a ∷ []) = refl
-  recounted_again (a ∷ b ∷ []) = refl
-  recounted_again (a ∷ b ∷ c ∷ []) = refl
-  recounted_again (a ∷ b ∷ c ∷ g ∷ []) = refl
+    recounted_count : get_or (recounted A v) 4 0 ≡ n
+    recounted_count =
+        ⊎_elim
+        (λ h. get_or-eq_default (recounted A v) 0 (rw (length-set v 4 n) h)
+        ∙ omega (arith, digits-length A (drop 8 v) (get_or v 4 0), length-drop 8 v, h))
+        (λ h. get_or-set_same v 4 n 0 h)
+        (le_or_lt (length v) 4)
 
-  -- It brings all that it declares.
-  pub recounted_whole : (v : List ℕ) → absent_at A (recounted A v) ≡ 0
-  recounted_whole (a ∷ b ∷ c ∷ g ∷ n ∷ v) = rw (digits_same (drop 3 v) n) (omega arith)
-  recounted_whole [] = omega arith
-  recounted_whole (a ∷ []) = omega arith
-  recounted_whole (a ∷ b ∷ []) = omega arith
-  recounted_whole (a ∷ b ∷ c ∷ []) = omega arith
-  recounted_whole (a ∷ b ∷ c ∷ g ∷ []) = omega arith
+    recounted_title : title_at A (recounted A v) ≡ title_at A v
+    recounted_title =
+        rw
+        (get_or-set_other v 4 3 n 0 (λ e. omega (arith, e)), get_or-set_other v 4 5 n 0 (λ e. omega (arith, e)),
+        get_or-set_other v 4 6 n 0 (λ e. omega (arith, e)), get_or-set_other v 4 7 n 0 (λ e. omega (arith, e)),
+        drop-set-lt 8 v 4 n (omega arith), recounted_count, digits_same (drop 8 v) (get_or v 4 0))
 
-  -- It is read as the same title.
-  pub recounted_reads : (v : List ℕ) → title_in A (recounted A v) ≡ title_in A v
-  unfolding title_in
-  recounted_reads v = rw (recounted_title v, length-set v 4 (length (title_at A v).digits))
+    recounted_again : recounted A (recounted A v) ≡ recounted A v
+    recounted_again = ap (λ (t : Title). set (recounted A v) 4 (length t.digits)) recounted_title ∙ set-set v 4 n n
+
+    -- It brings all that it declares.
+    pub recounted_whole : absent_at A (recounted A v) ≡ 0
+    recounted_whole = ap₂ ◌-◌ recounted_count (ap (λ (t : Title). length t.digits) recounted_title) ∙ omega arith
+
+    -- It is read as the same title.
+    pub recounted_reads : title_in A (recounted A v) ≡ title_in A v
+    unfolding title_in
+    recounted_reads = rw (recounted_title, length-set v 4 n)
 
   -- as a sub-parameter too
   piece_same : (p : Param) → piece_in A (recounted_param A p) ≡ piece_in A p
@@ -78,7 +80,7 @@ module _ (A : Alphabet) where
   pieces_same [] = refl
   pieces_same (p ∷ ps) = rw (piece_same p, pieces_same ps)
 
-  -- Address values that bring the same are read as the same address, or refused alike.
+  -- Address values that bring the same are read as the same address, or are refused alike.
   pub short-reads-the-same : (v w : List ℕ) → BringTheSame A v w → address_in A v ≡ address_in A w
   unfolding address_in two_at
   short-reads-the-same v w same = sym (by_head v) ∙ ap₂ from_head same.head same.params ∙ by_head w
@@ -105,7 +107,7 @@ module _ (A : Alphabet) where
       by_head (a ∷ b ∷ []) = refl
       by_head (a ∷ b ∷ c ∷ []) = refl
 
-  -- It is settled as the same value.
+  -- They are settled as the same value, or are refused alike.
   pub short-settles-the-same : (tag : ℕ) (v w : List ℕ) → BringTheSame A v w → rewrite_address A tag v ≡ rewrite_address A tag w
   short-settles-the-same tag v w same = same-meaning A tag v w (short-reads-the-same v w same)
 
@@ -132,7 +134,7 @@ module _ (A : Alphabet) (L : Lawful A) where
   title_whole t w e =
       let (os, ho, made) = mapped_inv (title_octets t) (write_digits A t.digits) e in
       let n = length t.digits in
-      ap (absent_at A) (sym made) ∙ absent_lem A os n ∙ omega (arith, (digit-octets A L t.digits os ho).count)
+      ap (absent_at A) (sym made) ∙ absent-octets A os n ∙ omega (arith, (digit-octets A L t.digits os ho).count)
 
   -- a sub-parameter that is no title, or one of which nothing is absent
   abbrev Whole : Param → Type 0
@@ -188,5 +190,5 @@ module _ (A : Alphabet) (L : Lawful A) where
       let r = readable A v a o ha in
       let k = written_inv A tag a w hw in
       ap (absent_in A) (sym k.octets)
-      ∙ ap (λ o. accepted_or 0 (mapped (absent_among A) o)) (round_trip k.params)
+      ∙ ap (λ o. absent_among A (accepted_or [] o)) (round_trip k.params)
       ∙ among_whole k.params (pieces_whole (pieces a) k.params r.came k.subs)

@@ -50,14 +50,14 @@ kept_few v (Some p) o = read_at_most built_in (drop 8 w) (get_or w 4 0) (omega (
     octets = all_take (λ (x : ℕ). x < 256) p.length (drop p.start v) (all_drop (λ (x : ℕ). x < 256) p.start v o)
 
 title_taken :
-    (n : ℕ) (o : Option Title)
+    (absent : ℕ) (o : Option Title)
     → FewDigits o
-    → part_given (option_map (record_of n) o) ≡ accepted (option_map title_of (option_map (record_of n) o))
-title_taken n None f = refl
-title_taken n (Some t) f = rw (le-leb (length t.digits) 255 f)
+    → part_given (option_map (record_of absent) o) ≡ accepted (option_map title_of (option_map (record_of absent) o))
+title_taken absent None f = refl
+title_taken absent (Some t) f = rw (le-leb (length t.digits) 255 f)
 
-given-read : (n : ℕ) (a : Address) → a.routing ≤ 4 → FewDigits a.title → address_given (address_record n a) a.others ≡ accepted a
-given-read n a h f = rw (title_taken n a.title f) (ap accepted (address_back n a h))
+given-read : (absent : ℕ) (a : Address) → a.routing ≤ 4 → FewDigits a.title → address_given (address_record absent a) a.others ≡ accepted a
+given-read absent a h f = rw (title_taken absent a.title f) (ap accepted (address_back absent a h))
 
 pub others-all : (P : Place → Type 0) (ps : List Place) → All P ps → All P (other_places ps)
 others-all P [] h = tt
@@ -119,27 +119,27 @@ module _ {v : List ℕ} {s : Parts} (y : Read v s) where
   others_inside = others-all (Inside v) ps (places_inside v 4 ps y.known.walked)
 
   pub record_written :
-      (n : ℕ) (values : List ℕ) (held : Table)
+      (absent : ℕ) (values : List ℕ) (held : Table)
       → records values held (length (other_places ps)) ≡ accepted (map (valued v) (other_places ps))
-      → encode_address (address_record n a) values held ≡ write_address built_in 0 a
+      → encode_address (address_record absent a) values held ≡ write_address built_in 0 a
   unfolding encode_address_as
-  record_written n values held e =
+  record_written absent values held e =
       let from-table : records values held (length a.others) ≡ accepted a.others =
       ap (records values held) others_count ∙ e ∙ ap accepted (sym others) in
-      ap (λ (o : Outcome (List Param)). after o (λ os. after (address_given (address_record n a) os) (write_address built_in 0))) from-table
-      ∙ ap (λ (o : Outcome Address). after o (write_address built_in 0)) (given-read n a routing few)
+      ap (λ (o : Outcome (List Param)). after o (λ os. after (address_given (address_record absent a) os) (write_address built_in 0))) from-table
+      ∙ ap (λ (o : Outcome Address). after o (write_address built_in 0)) (given-read absent a routing few)
 
   -- as it is read and written again
   pub written_again :
-      (n : ℕ) (values : List ℕ) (held : Table) (r : SuaAddress) (x : Address)
+      (absent : ℕ) (values : List ℕ) (held : Table) (r : SuaAddress) (x : Address)
       → read_address built_in v ≡ accepted x
-      → r ≡ address_record n x
+      → r ≡ address_record absent x
       → records values held (length (other_places ps)) ≡ accepted (map (valued v) (other_places ps))
       → encode_address r values held ≡ after (read_address built_in v) (write_address built_in 0)
-  written_again n values held r x read recorded e =
+  written_again absent values held r x read recorded e =
       let same : x ≡ a = accepted_inj (sym read ∙ read_whole y) in
-      ap (λ (r : SuaAddress). encode_address r values held) (recorded ∙ ap (address_record n) same)
-      ∙ record_written n values held e
+      ap (λ (r : SuaAddress). encode_address r values held) (recorded ∙ ap (address_record absent) same)
+      ∙ record_written absent values held e
       ∙ sym (ap (λ (o : Outcome Address). after o (write_address built_in 0)) (read_whole y))
 
 pub written_from_table :

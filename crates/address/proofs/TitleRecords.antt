@@ -42,11 +42,11 @@ module _ (v : List ℕ) where
       digits = digits_in built_in (drop 8 v) (get_or v 4 0)
 
       abbrev read_so : Outcome GtDigits
-      read_so = mapped (digits_record (absent_at built_in v)) (read_digits built_in (drop 8 v) (get_or v 4 0))
+      read_so = mapped (digits_record (get_or v 4 0)) (read_digits built_in (drop 8 v) (get_or v 4 0))
 
-      digits-known : read_so ≡ accepted (digits_record (absent_at built_in v) digits)
+      digits-known : read_so ≡ accepted (digits_record (get_or v 4 0) digits)
       unfolding read_digits
-      digits-known = ap (mapped (digits_record (absent_at built_in v))) (bounded-within (drop 8 v) (accepted digits) (omega (arith, length-drop 8 v)))
+      digits-known = ap (mapped (digits_record (get_or v 4 0))) (bounded-within (drop 8 v) (accepted digits) (omega (arith, length-drop 8 v)))
 
       pub title_done :
           (read : GtDigits)
@@ -55,7 +55,7 @@ module _ (v : List ℕ) where
           ≡ mapped recorded (read_title built_in v)
       unfolding read_title title_in
       title_done read e =
-          let all : read ≡ digits_record (absent_at built_in v) digits = accepted_inj (e ∙ digits-known) in
+          let all : read ≡ digits_record (get_or v 4 0) digits = accepted_inj (e ∙ digits-known) in
           rw (bounded-within v (title_in built_in v) within, le-leb 8 (length v) long, all)
 
       pub title_never : {X : Type 0} (n : ℕ) (vs : List ℕ) → refused n vs ≡ read_so → X

@@ -7,12 +7,12 @@ use Rattle.bcd.specs.Digits.{built_in, halves, digits_in}
 use Rattle.parameter.specs.Parameter.{param_octets, run_octets, two_at}
 use Rattle.parameter.specs.Walk.{headed, step_at, steps, places, parameters}
 use Rattle.address.specs.Absent.{absent_at, absent_in}
-use Rattle.address.specs.Worked.{declared_titles, declared_addresses}
+use Rattle.address.specs.Worked.{declared_titles, titled_addresses}
 
 pub worked_titles : All (λ (x : List ℕ × ℕ). absent_at built_in x.0 ≡ x.1) declared_titles
 unfolding digits_in halves
 worked_titles = (refl, (refl, (refl, (refl, (refl, (refl, tt))))))
 
-pub worked_absent : All (λ (x : List ℕ × ℕ). absent_in built_in x.0 ≡ x.1) declared_addresses
+pub worked_titled_addresses : All (λ (x : List ℕ × ℕ). absent_in built_in x.0 ≡ x.1) titled_addresses
 unfolding absent_in digits_in halves parameters places steps step_at headed two_at run_octets param_octets
-worked_absent = (refl, (refl, (refl, (refl, tt))))
+worked_titled_addresses = (refl, (refl, (refl, tt)))

@@ -97,7 +97,7 @@ later None o = o
 later (Some x) None = Some x
 later (Some x) (Some y) = Some y
 
--- Of those of one kind the last one holds (document 01, module 3).
+-- Of the elements of one kind the last one holds (document 01, module 3).
 abbrev pub last : {X Y : Type 0} → (Y → Option X) → List Y → Option X
 last f [] = None
 last f (x ∷ xs) = later (f x) (last f xs)

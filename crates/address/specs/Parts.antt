@@ -59,10 +59,10 @@ kept_value v = option_map (λ p. (valued v p).value)
 
 -- What is kept, as the parts of the address: a title, a point code, an SSN (RFC 3868, 3.10.2.3 to 3.10.2.5).
 abbrev pub kept_title : Alphabet → List ℕ → Option Place → Option Title
-kept_title A v = option_map (λ p. title_at A (valued v p).value)
+kept_title A v k = option_map (title_at A) (kept_value v k)
 
 abbrev pub kept_code : List ℕ → Option Place → Option ℕ
-kept_code v = option_map (λ p. four_in (valued v p).value)
+kept_code v k = option_map four_in (kept_value v k)
 
 abbrev pub kept_sub : List ℕ → Option Place → Option ℕ
-kept_sub v = option_map (λ p. get_or (valued v p).value 3 0)
+kept_sub v k = option_map (λ w. get_or w 3 0) (kept_value v k)

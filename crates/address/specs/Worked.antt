@@ -24,11 +24,9 @@ declared_titles =
     ∷ []
 
 -- The same of addresses: the last title holds.
-abbrev pub declared_addresses : List (List ℕ × ℕ)
-declared_addresses =
+abbrev pub titled_addresses : List (List ℕ × ℕ)
+titled_addresses =
     (with_titles (declaring 4 (0x21 ∷ 0x03 ∷ []) ∷ declaring 9 (0x21 ∷ 0x03 ∷ []) ∷ []), 5)
     ∷ (with_titles (declaring 9 (0x21 ∷ 0x03 ∷ []) ∷ declaring 4 (0x21 ∷ 0x03 ∷ []) ∷ []), 0)
     ∷ (with_titles [], 0)
-    -- no address: a sub-parameter of length 3
-    ∷ (0 ∷ 1 ∷ 0 ∷ 4 ∷ 0x80 ∷ 1 ∷ 0 ∷ 3 ∷ [], 0)
     ∷ []

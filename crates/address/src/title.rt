@@ -9,7 +9,6 @@ ghost use Rattle.address.specs.Titles.{record_of};
 ghost use Rattle.address.specs.Absent.{absent_at};
 
 use crate::GlobalTitle;
-use bcd::GtDigits;
 use bcd::error::{Refusal, within};
 
 impl GlobalTitle {
@@ -25,19 +24,16 @@ impl GlobalTitle {
                 actual: n,
             });
         }
-        let GtDigits {
-            digits,
-            count,
-            absent,
-        } = bcd::decode_gt_digits(&value[8..], value[4])?;
+        let read = bcd::decode_gt_digits(&value[8..], value[4])?;
+        let digits = read.digits;
         Ok(GlobalTitle {
             gti: value[3],
             translation_type: value[5],
             numbering_plan: value[6],
             nature_of_address: value[7],
             digits,
-            count,
-            absent,
+            count: read.count,
+            absent: read.absent,
         })
     }
 

@@ -8,7 +8,7 @@ use Rattle.std.specs.Simd.{first_chunks}
 use lib.ListN.{length, get_or, take, drop, replicate, length-map, length-take, get_or-eq_default}
 use lib.Seq.{get_or-take, get_or-drop, take_all}
 use Rattle.bcd.specs.Outcome.{accepted, refused, mapped, most}
-use Rattle.bcd.specs.Digits.{Alphabet, halves, pack, digits_in, read_digits, absent_digits, digits_record}
+use Rattle.bcd.specs.Digits.{Alphabet, halves, pack, digits_in, digits_record, read_digits}
 use Rattle.bcd.proofs.Outcomes.{le_or_lt, bounded-within, bounded_beyond}
 use Rattle.bcd.proofs.Halves.{halves-length, halves_low, halves_high, pack_at}
 
@@ -90,15 +90,12 @@ module _ (A : Alphabet) (xs : List ℕ) where
   unfolding digits_in
   digits-most count = rw (← halves-length xs) (ap (map A.char) (take_min count (halves xs)))
 
-  -- the count less twice the octets, in any alphabet
-  pub absent_lem : (count : ℕ) → absent_digits A xs count ≡ count - 2 * length xs
-  absent_lem count = rw (digits-length count) (omega arith)
+  -- how many of a count are absent: those beyond twice the octets
+  pub absent-octets : (count : ℕ) → count - length (digits_in A xs count) ≡ count - 2 * length xs
+  absent-octets count = omega (arith, digits-length count)
 
   -- reading refuses 12, or gives the digits there are and the number of those that are absent
-  pub reading_refused :
-      (count : ℕ)
-      → most < length xs
-      → refused 12 (length xs ∷ []) ≡ mapped (digits_record (absent_digits A xs count)) (read_digits A xs count)
+  pub reading_refused : (count : ℕ) → most < length xs → refused 12 (length xs ∷ []) ≡ mapped (digits_record count) (read_digits A xs count)
   unfolding read_digits
   reading_refused count h = rw (bounded_beyond xs (accepted (digits_in A xs count)) h)
 
@@ -109,7 +106,7 @@ module _ (A : Alphabet) (xs : List ℕ) where
       → absent ≡ count - n
       → d ≡ digits_in A xs n
       → accepted (record { digits = d ++ drop n (replicate 255 0); count = n; absent = absent })
-      ≡ mapped (digits_record (absent_digits A xs count)) (read_digits A xs count)
+      ≡ mapped (digits_record count) (read_digits A xs count)
   unfolding read_digits
   reading_done count n absent d h e missing done =
       let same : digits_in A xs n ≡ digits_in A xs count = rw e (digits-most count) in

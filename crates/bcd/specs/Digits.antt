@@ -51,13 +51,11 @@ digits_in A xs count = map A.char (take count (halves xs))
 unfoldable pub read_digits : Alphabet → List ℕ → (count : ℕ) → Outcome (List ℕ)
 read_digits A xs count = bounded xs (accepted (digits_in A xs count))
 
--- How many of the declared digits are absent: the count less the digits read (document 02, CR 7).
-abbrev pub absent_digits : Alphabet → List ℕ → (count : ℕ) → ℕ
-absent_digits A xs count = count - length (digits_in A xs count)
-
--- Digits as the code holds them: in front of zeros, with their number, and how many are absent.
-abbrev pub digits_record : (absent : ℕ) → List ℕ → GtDigits
-digits_record absent cs = record { digits = cs ++ drop (length cs) (replicate 255 0); count = length cs; absent = absent }
+-- Digits as the code holds them: in front of zeros, with their number, and how many of those declared are absent: the count that
+-- was declared less the digits read (document 02, CR 7).
+abbrev pub digits_record : (declared : ℕ) → List ℕ → GtDigits
+digits_record declared cs =
+    record { digits = cs ++ drop (length cs) (replicate 255 0); count = length cs; absent = declared - length cs }
 
 -- A character that is written as no half octet is refused as 9.
 abbrev pub written : ℕ → Option ℕ → Outcome (List ℕ)

@@ -42,6 +42,13 @@ abbrev pub All : {A : Type 0} → (A → Type 0) → List A → Type 0
 All P [] = Unit {0}
 All P (x ∷ xs) = P x × All P xs
 
+-- Two lists are equally long, and elements at the same place are in the relation.
+abbrev pub AllPairs : {A B : Type 0} → (A → B → Type 0) → List A → List B → Type 0
+AllPairs R [] [] = Unit {0}
+AllPairs R [] (y ∷ ys) = ⊥
+AllPairs R (x ∷ xs) [] = ⊥
+AllPairs R (x ∷ xs) (y ∷ ys) = R x y × AllPairs R xs ys
+
 -- Every element passes a test.
 abbrev pub every : {A : Type 0} → (A → Bool) → List A → Bool
 every = list_all

@@ -8,7 +8,7 @@ ghost use Rattle.std.specs.Prelude.{◌≡◌, ◌*◌, ◌≤◌, length, get_o
 ghost use Rattle.bcd.specs.Outcome.{mapped, delivered, deliver};
 ghost use Rattle.bcd.specs.Answers.{outcome_of};
 ghost use Rattle.bcd.specs.Digits.{halves, built_in, digits_in, read_digits, write_digits};
-ghost use Rattle.bcd.specs.Digits.{written, absent_digits, digits_record};
+ghost use Rattle.bcd.specs.Digits.{written, digits_record};
 ghost use Rattle.bcd.specs.Steps.{one_half};
 
 use error::{Refusal, within};
@@ -131,10 +131,9 @@ fn unpack_digits(bytes: &[u8], out: &mut [u8])
     }
 }
 
-// Reads digits: as many as the count says, or as there are; the others are absent. 12.
+// Reads digits: as many as the count says, or as there are; those declared beyond these are absent. 12.
 pub fn decode_gt_digits(bytes: &[u8], num_digits: u8) -> Result<GtDigits, Refusal>
-    ensures { outcome_of result
-        ≡ mapped (digits_record (absent_digits built_in bytes.now num_digits)) (read_digits built_in bytes.now num_digits) }
+    ensures { outcome_of result ≡ mapped (digits_record num_digits) (read_digits built_in bytes.now num_digits) }
 {
     let given = bytes.len();
     within(given)?;

@@ -130,6 +130,17 @@ module _ (A : Alphabet) where
     unfolding settled
     settled-read m e = rw e
 
+  -- Messages that are read as one type, and whose parameters give the same, have the same form or the same refusal.
+  pub settled_alike :
+      (xs ys : List ℕ) (m n : Message)
+      → read_message xs ≡ accepted m
+      → read_message ys ≡ accepted n
+      → m.type ≡ n.type
+      → each (settled_param A) m.params ≡ each (settled_param A) n.params
+      → settled A xs ≡ settled A ys
+  settled_alike xs ys m n hm hn t e =
+      settled-read xs m hm ∙ ap₂ (λ t o. after o (λ ps. write_message (message t ps))) t e ∙ sym (settled-read ys n hn)
+
   -- The hop counters are in no form: messages that are read as one type, and as one list of parameters apart from these, have
   -- the same form or the same refusal.
   pub counters_ignored :
@@ -140,7 +151,4 @@ module _ (A : Alphabet) where
       → without_hop_counters m.params ≡ without_hop_counters n.params
       → settled A xs ≡ settled A ys
   counters_ignored xs ys m n hm hn t e =
-      settled-read xs m hm
-      ∙ ap₂ (λ t o. after o (λ ps. write_message (message t ps))) t
-      (sym (without_counters m.params) ∙ ap (each (settled_param A)) e ∙ without_counters n.params)
-      ∙ sym (settled-read ys n hn)
+      settled_alike xs ys m n hm hn t (sym (without_counters m.params) ∙ ap (each (settled_param A)) e ∙ without_counters n.params)

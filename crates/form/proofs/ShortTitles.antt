@@ -9,10 +9,10 @@ use Rattle.bcd.specs.Digits.{Alphabet}
 use Rattle.parameter.specs.Parameter.{Param, param}
 use Rattle.address.specs.Address.{address_in, rewrite_address}
 use Rattle.address.proofs.Short.{short-reads-the-same, short-settles-the-same}
-use Rattle.message.specs.Message.{Message, message, read_message, write_message}
+use Rattle.message.specs.Message.{Message, read_message}
 use Rattle.form.specs.Form.{is_address, settled_param, settled, address, part_in, meaning}
 use Rattle.form.specs.ShortTitles.{SameParam, SameParams}
-use Rattle.form.proofs.Settling.{settled-address, settled-read}
+use Rattle.form.proofs.Settling.{settled-address, settled_alike}
 
 module _ (A : Alphabet) where
   -- What is the same of each two is the same of all.
@@ -52,7 +52,8 @@ module _ (A : Alphabet) where
       (hn : read_message ys ≡ accepted n)
       (t : m.type ≡ n.type)
       (same : SameParams A m.params n.params) where
-    -- Messages that are read as one type and as the same parameters, but for that, mean the same.
+    -- Messages that are read as one type, and as parameters that are the same but for what titles declare beyond the digits that
+    -- they bring, mean the same.
     pub short_titles_mean : meaning A xs ≡ meaning A ys
     unfolding meaning
     short_titles_mean =
@@ -63,6 +64,4 @@ module _ (A : Alphabet) where
     -- They have the same form or the same refusal.
     pub short_titles_ignored : settled A xs ≡ settled A ys
     short_titles_ignored =
-        settled-read A xs m hm
-        ∙ ap₂ (λ t o. after o (λ ps. write_message (message t ps))) t (each_same (settled_param A) settled_same m.params n.params same)
-        ∙ sym (settled-read A ys n hn)
+        settled_alike A xs ys m n hm hn t (each_same (settled_param A) settled_same m.params n.params same)

@@ -1,5 +1,6 @@
--- Parameters that are the same but for what titles declare beyond the digits that they bring (document 02, CR 7).
-use Rattle.std.specs.Prelude.{◌≡◌, ◌⊎◌, true, List, [], ◌∷◌}
+-- Parameters that are the same but for how many digits titles declare beyond those that they bring (document 02, CR 7).
+use Rattle.std.specs.Prelude.{◌≡◌, ◌⊎◌, true, List}
+use Rattle.bcd.specs.Outcome.{AllPairs}
 use Rattle.bcd.specs.Digits.{Alphabet}
 use Rattle.parameter.specs.Parameter.{Param}
 use Rattle.address.specs.Absent.{BringTheSame}
@@ -11,7 +12,4 @@ SameParam A p q = (p.tag ≡ q.tag) × ((p.value ≡ q.value) ⊎ ((is_address p
 
 -- One for each, in order.
 abbrev pub SameParams : Alphabet → List Param → List Param → Type 0
-SameParams A [] [] = Unit {0}
-SameParams A [] (q ∷ qs) = ⊥
-SameParams A (p ∷ ps) [] = ⊥
-SameParams A (p ∷ ps) (q ∷ qs) = SameParam A p q × SameParams A ps qs
+SameParams A = AllPairs (SameParam A)

@@ -1,5 +1,6 @@
 -- A form's parameters beside the parts of a meaning: what reading a form into lent tables gives.
-use Rattle.std.specs.Prelude.{◌≡◌, List, [], ◌∷◌}
+use Rattle.std.specs.Prelude.{◌≡◌, List}
+use Rattle.bcd.specs.Outcome.{AllPairs}
 use Rattle.parameter.specs.Parameter.{Param}
 use Rattle.parameter.specs.Table.{Table}
 use Rattle.address.specs.Standing.{ListsAs}
@@ -13,7 +14,4 @@ Stands p (address tag a) = (p.tag ≡ tag) × ((t : Table) → ListsAs p.value a
 
 -- One parameter for each part, in order.
 abbrev pub AllStand : List Param → List Part → Type 0
-AllStand [] [] = Unit {0}
-AllStand [] (x ∷ xs) = ⊥
-AllStand (p ∷ ps) [] = ⊥
-AllStand (p ∷ ps) (x ∷ xs) = Stands p x × AllStand ps xs
+AllStand = AllPairs Stands

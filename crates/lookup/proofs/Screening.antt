@@ -5,10 +5,12 @@ use Rattle.std.specs.Prelude.{Option, None, Some}
 use mathlib.Core.List.{List, [], ◌∷◌}
 use lib.ListN.{take}
 use Rattle.bcd.specs.Outcome.{Outcome, accepted, refused}
+use Rattle.bcd.specs.Digits.{halves, digits_in}
 use Rattle.parameter.specs.Parameter.{Param, four_in, two_at}
 use Rattle.parameter.specs.Walk.{headed, step_at, steps, places, parameters}
 use Rattle.parameter.specs.Table.{Table, tabulate, rows, record_in, records, first_with, find_param}
-use Rattle.address.specs.Address.{piece_in, address_with, address_in, read_address}
+use Rattle.address.specs.Address.{title_in, piece_in, address_with, address_in, read_address}
+use Rattle.address.specs.Absent.{absent_in}
 use Rattle.address.specs.Listing.{address_places, Listed, list_address}
 use Rattle.lookup.specs.declared.SccpCause.{SccpCause}
 use Rattle.lookup.specs.Accessors.{of_four, read_at, first_read, fourth, cause_in, list_address_at, address_found}
@@ -29,7 +31,7 @@ pub same-handling :
     (record { context = context₁; class = class₁; control = control₁; hops = hops₁; cause = cause₁; source = source₁; destination = destination₁ })
 same-handling a b c d e f g = rw (a, b, c, d, e, f, g)
 
--- Both addresses; a routing context of three octets, and a later one of four; no source; no room for the source's other; a last
+-- Both addresses, the destination's title without the digits that it declares; a routing context of three octets, and a later one of four; no source; no room for the source's other; a last
 -- record that ends behind the values.
 pub worked_screens :
     ◌≡◌ {A = List Handling}
@@ -37,7 +39,7 @@ pub worked_screens :
     ∷ handling worked_values (worked_table 0x0102 3 20) 14 room_for_one room_for_one
     ∷ handling worked_values (worked_table 0 4 20) 14 room_for_one room_for_one
     ∷ handling worked_values (worked_table 0x0102 4 20) 14 room_for_none room_for_one
-    ∷ handling worked_values (worked_table 0x0102 4 37) 14 room_for_one room_for_one
+    ∷ handling worked_values (worked_table 0x0102 4 49) 14 room_for_one room_for_one
     ∷ [])
     (worked_fields (Some 7) worked_source worked_destination
     ∷ worked_fields None worked_source worked_destination
@@ -46,7 +48,7 @@ pub worked_screens :
     ∷ all_outside room_for_one room_for_one
     ∷ [])
 unfolding
-    first_read address_found list_address_at list_address address_places tabulate read_address address_in parameters places steps step_at headed two_at piece_in address_with
+    first_read address_found list_address_at list_address address_places tabulate read_address address_in parameters places steps step_at headed two_at piece_in title_in digits_in halves absent_in address_with
     find_param records rows record_in
 worked_screens = refl
 

@@ -4,10 +4,12 @@ use Rattle.std.specs.Prelude.{Option, None, Some}
 use Rattle.bcd.specs.Outcome.{accepted, refused}
 use Rattle.parameter.specs.Parameter.{param}
 use Rattle.parameter.specs.Table.{Table, table}
+use Rattle.address.specs.Address.{Title}
 use Rattle.address.specs.Listing.{address_record, Listed, listed}
 use Rattle.lookup.specs.Screen.{Handling}
 
--- Five values of four octets; an address with an other sub-parameter, 0x8005, of no octets; one with an SSN, 6, and the same.
+-- Five values of four octets; an address with an other sub-parameter, 0x8005, of no octets; one with an SSN, 6, the same, and a
+-- title that declares nine digits and brings none.
 abbrev pub worked_values : List ℕ
 worked_values =
     0 ∷ 0 ∷ 0 ∷ 7
@@ -17,6 +19,7 @@ worked_values =
     ∷ 0 ∷ 0 ∷ 4 ∷ 9
     ∷ 0 ∷ 1 ∷ 0 ∷ 0 ∷ 0x80 ∷ 5 ∷ 0 ∷ 4
     ∷ 0 ∷ 2 ∷ 0 ∷ 0 ∷ 0x80 ∷ 3 ∷ 0 ∷ 8 ∷ 0 ∷ 0 ∷ 0 ∷ 6 ∷ 0x80 ∷ 5 ∷ 0 ∷ 4
+    ∷ 0x80 ∷ 1 ∷ 0 ∷ 12 ∷ 0 ∷ 0 ∷ 0 ∷ 4 ∷ 9 ∷ 0 ∷ 1 ∷ 4
     ∷ []
 
 -- The seven tags, the source's left out or not, and again, each time with another's value.
@@ -29,7 +32,7 @@ abbrev pub worked_table : (source context last : ℕ) → Table
 worked_table source context last =
     table (worked_tags source)
     (0 ∷ 4 ∷ 8 ∷ 12 ∷ 16 ∷ 20 ∷ 28 ∷ 4 ∷ 8 ∷ 12 ∷ 16 ∷ 0 ∷ 28 ∷ last ∷ [])
-    (context ∷ 4 ∷ 4 ∷ 4 ∷ 4 ∷ 8 ∷ 16 ∷ 4 ∷ 4 ∷ 4 ∷ 4 ∷ 4 ∷ 16 ∷ 8 ∷ [])
+    (context ∷ 4 ∷ 4 ∷ 4 ∷ 4 ∷ 8 ∷ 28 ∷ 4 ∷ 4 ∷ 4 ∷ 4 ∷ 4 ∷ 28 ∷ 8 ∷ [])
 
 -- A table with room for one other, and one with room for none.
 abbrev pub room_for_one : Table
@@ -56,10 +59,13 @@ worked_source =
     (accepted (address_record 0 (record { routing = 1; gt = false; pc = false; ssn = false; title = None; code = None; sub = None; others = param 0x8005 [] ∷ [] })))
     (table (0x8005 ∷ []) (28 ∷ []) (0 ∷ []))
 
+abbrev pub worked_title : Title
+worked_title = record { gti = 4; tt = 0; np = 1; noa = 4; digits = [] }
+
 abbrev pub worked_destination : Listed
 worked_destination =
     listed
-    (accepted (address_record 0 (record { routing = 2; gt = false; pc = false; ssn = false; title = None; code = None; sub = Some 6; others = param 0x8005 [] ∷ [] })))
+    (accepted (address_record 9 (record { routing = 2; gt = false; pc = false; ssn = false; title = Some worked_title; code = None; sub = Some 6; others = param 0x8005 [] ∷ [] })))
     (table (0x8005 ∷ []) (44 ∷ []) (0 ∷ []))
 
 -- An address that was refused, with its table as it was.

@@ -15,10 +15,10 @@ use Rattle.bcd.specs.declared.error.Refusal.{Refusal}
 use Rattle.bcd.specs.Digits.{built_in}
 use Rattle.bcd.proofs.Outcomes.{accepted_inj, never, demand_inv}
 use Rattle.bcd.proofs.Results.{refusal_as}
-use Rattle.parameter.specs.Parameter.{Param, two_at}
+use Rattle.parameter.specs.Parameter.{Param, four_in, two_at}
 use Rattle.parameter.specs.Walk.{valued}
 use Rattle.address.specs.Address as Sua
-use Rattle.address.specs.Address.{Address, address_with, bit, routing_in, read_address}
+use Rattle.address.specs.Address.{Address, title_at, address_with, bit, routing_in, read_address}
 use Rattle.address.specs.Records.{routing_value}
 use Rattle.address.specs.declared.RoutingIndicator.{RoutingIndicator}
 use Rattle.address.specs.declared.RoutingIndicator.TheVariants as I
@@ -30,7 +30,7 @@ use Rattle.address.specs.declared.parts.Parts.{Parts}
 use Rattle.address.proofs.Interpreting.{title_holds, code_holds, sub_holds, others_hold}
 use Rattle.address.proofs.Interpreted.{read_whole}
 use Rattle.address.proofs.Others.{count_known}
-use Rattle.address.proofs.Planning.{map-some}
+use Rattle.address.proofs.Planning.{kept-some}
 use Rattle.sccp.specs.Sccp.{with_parts, same, routes, alone, absent_or, title_converts, converts}
 use Rattle.sccp.specs.Steps.{plain_parts, convertible}
 use Rattle.sccp.proofs.Parts.{code_small}
@@ -114,9 +114,9 @@ module _ {v : List ℕ} {s : Parts} (r : Read v s) where
   unfolding converts
   converts_by =
       rw (
-        map-some _ s.title,
-        map-some _ s.code,
-        map-some _ s.ssn,
+        kept-some (title_at built_in) v s.title,
+        kept-some four_in v s.code,
+        kept-some (λ w. get_or w 3 0) v s.ssn,
         alone-counted others,
         others_count,
       )

@@ -5,9 +5,8 @@ use Rattle.bcd.specs.Outcome.{Outcome, refused}
 use Rattle.bcd.specs.Digits.{Alphabet}
 use Rattle.parameter.specs.Walk.{valued}
 use Rattle.parameter.specs.declared.Place.{Place}
-use Rattle.address.specs.Address.{Piece, title, code, sub, other, title_at, present}
-use Rattle.address.specs.Titles.{record_of}
-use Rattle.address.specs.Absent.{absent_at}
+use Rattle.address.specs.Address.{Piece, title, code, sub, other, present}
+use Rattle.address.specs.Absent.{record_at}
 use Rattle.address.specs.Listing.{other_places}
 use Rattle.address.specs.Parts.{kept_value, kept_title, kept_code, kept_sub}
 use Rattle.address.specs.declared.GlobalTitle.{GlobalTitle}
@@ -30,7 +29,7 @@ judged (Some p) o = short_refusal p
 
 -- The record of the title that is kept.
 abbrev pub kept_record : Alphabet → List ℕ → Option Place → Option GlobalTitle
-kept_record A v k = option_map (λ w. record_of (absent_at A w) (title_at A w)) (kept_value v k)
+kept_record A v k = option_map (record_at A) (kept_value v k)
 
 -- The pieces that are written, in their order.
 unfoldable pub kept_pieces : Alphabet → List ℕ → Parts → List Place → List Piece

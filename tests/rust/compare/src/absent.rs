@@ -33,24 +33,33 @@ pub fn of_address(value: &[u8]) -> usize {
 }
 
 /// The calls whose answers show the number.
-pub const SHOWN: [&str; 6] =
+const SHOWN: [&str; 6] =
     ["decode_gt_digits", "title_decode", "address_decode", "source_address", "destination_address", "screen"];
 
-/// The number that an answer shows, the greatest where it shows several.
-pub fn shown(name: &str, answer: &str) -> usize {
+/// How many digits each title in an answer has, and how many are absent; nothing where none is absent.
+pub fn shown(name: &str, answer: &str) -> Vec<(usize, usize)> {
     let place = match name {
-        "decode_gt_digits" => 2,
-        "title_decode" => 6,
-        "address_decode" | "source_address" | "destination_address" => 11,
-        "screen" => {
-            let parts = answer.split(BETWEEN).zip(SCREENED);
-            return parts.map(|(part, accessor)| shown(accessor, part)).max().unwrap_or(0);
-        }
-        _ => return 0,
+        "decode_gt_digits" => 1,
+        "title_decode" => 5,
+        "address_decode" | "source_address" | "destination_address" => 10,
+        "screen" => return answer.split(BETWEEN).zip(SCREENED).flat_map(|(part, accessor)| shown(accessor, part)).collect(),
+        _ => return Vec::new(),
     };
-    let mut words = answer.split(' ');
-    match words.next() {
-        Some("ok") => words.nth(place - 1).and_then(|word| word.parse().ok()).expect("a number"),
-        _ => 0,
+    let words: Vec<&str> = answer.split(' ').collect();
+    let number = |i: usize| words[i].parse().expect("a number");
+    match words[0] {
+        "ok" if number(place + 1) > 0 => vec![(number(place), number(place + 1))],
+        _ => Vec::new(),
     }
+}
+
+/// The kinds of answers with absent digits: by each call, of an odd and of an even declared count.
+pub fn kinds() -> Vec<String> {
+    SHOWN.iter().flat_map(|name| [kind(name, (1, 0)), kind(name, (0, 2))]).collect()
+}
+
+/// The kind of a call's answer by the digits there and those absent.
+pub fn kind(name: &str, (count, absent): (usize, usize)) -> String {
+    let parity = if (count + absent) % 2 == 1 { "odd" } else { "even" };
+    format!("{name} {parity}")
 }

@@ -1,19 +1,20 @@
 //! Calls through crates/replay, beside the Rust, line by line.
 
-use crate::absent::{shown, SHOWN};
+use crate::absent;
 use crate::calls::{answer, Call};
 use crate::generate::{call, refusals, Sizes, CALLS};
 use crate::random::Random;
-use crate::screen::kinds::{listed, texts, Kind};
+use crate::screen::kinds::{listed, Kind};
 use std::collections::{BTreeMap, BTreeSet};
 use std::io::Write;
 use std::process::{Command, Stdio};
 
 /// The characters that the program reads in one run, at most.
 const MOST_TEXT: usize = 900_000;
-/// With so many calls or more, each function that shows a number of absent digits must show one above 0.
+/// With so many calls or more, each function that shows a number of absent digits must show one above 0 of an odd declared count,
+/// and one of an even.
 const MANY: u64 = 10_000;
-const ABSENT: &str = "answers with absent digits";
+const ABSENT: &str = "titles with absent digits, by the declared count";
 
 /// The lines that the program answers to calls, one for each.
 pub fn replay(lines: &[String]) -> Vec<String> {
@@ -74,7 +75,7 @@ fn differing(pairs: &[(String, String)], what: &str) -> usize {
 pub fn compare(count: u64, seed: u64) -> bool {
     let mut differences = 0;
     let mut chunk = Vec::new();
-    let mut absent: BTreeMap<Kind, u64> = BTreeMap::new();
+    let mut short: BTreeMap<Kind, u64> = BTreeMap::new();
     let mut unseen: BTreeSet<(&str, u64)> =
         CALLS.iter().flat_map(|(name, numbers)| numbers.iter().map(|n| (*name, *n)).chain([(*name, 0)])).collect();
     for i in 0..count {
@@ -85,8 +86,8 @@ pub fn compare(count: u64, seed: u64) -> bool {
         for n in refusals(name, &expected) {
             unseen.remove(&(name, n));
         }
-        if shown(name, &expected) > 0 {
-            *absent.entry((ABSENT, name.into())).or_default() += 1;
+        for title in absent::shown(name, &expected) {
+            *short.entry((ABSENT, absent::kind(name, title))).or_default() += 1;
         }
         chunk.push((marked(&call, &expected), expected));
         if chunk.len() == 5_000 || i + 1 == count {
@@ -98,7 +99,7 @@ pub fn compare(count: u64, seed: u64) -> bool {
         println!("calls: never answered: {unseen:?}");
         differences += 1;
     }
-    differences += listed("calls", vec![(ABSENT, texts(&SHOWN))], &absent, count >= MANY) as usize;
+    differences += listed("calls", vec![(ABSENT, absent::kinds())], &short, count >= MANY) as usize;
     println!("calls: {count} of {} functions, {differences} differences", CALLS.len());
     differences == 0
 }

@@ -13,7 +13,7 @@ use std::process::{Command, Stdio};
 const MOST_TEXT: usize = 900_000;
 /// With so many calls or more, each function that shows a number of absent digits must show one above 0 of an odd declared count,
 /// and one of an even.
-const MANY: u64 = 10_000;
+const MANY: u64 = 20_000;
 const ABSENT: &str = "titles with absent digits, by the declared count";
 
 /// The lines that the program answers to calls, one for each.

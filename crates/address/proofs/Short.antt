@@ -43,10 +43,15 @@ module _ (A : Alphabet) where
 
     recounted_title : title_at A (recounted A v) ≡ title_at A v
     recounted_title =
-        rw
-        (get_or-set_other v 4 3 n 0 (λ e. omega (arith, e)), get_or-set_other v 4 5 n 0 (λ e. omega (arith, e)),
-        get_or-set_other v 4 6 n 0 (λ e. omega (arith, e)), get_or-set_other v 4 7 n 0 (λ e. omega (arith, e)),
-        drop-set-lt 8 v 4 n (omega arith), recounted_count, digits_same (drop 8 v) (get_or v 4 0))
+        rw (
+          get_or-set_other v 4 3 n 0 (λ e. omega (arith, e)),
+          get_or-set_other v 4 5 n 0 (λ e. omega (arith, e)),
+          get_or-set_other v 4 6 n 0 (λ e. omega (arith, e)),
+          get_or-set_other v 4 7 n 0 (λ e. omega (arith, e)),
+          drop-set-lt 8 v 4 n (omega arith),
+          recounted_count,
+          digits_same (drop 8 v) (get_or v 4 0),
+        )
 
     recounted_again : recounted A (recounted A v) ≡ recounted A v
     recounted_again = ap (λ (t : Title). set (recounted A v) 4 (length t.digits)) recounted_title ∙ set-set v 4 n n

@@ -1,6 +1,6 @@
 -- An address value as the code holds it: it was read, and what it keeps lies inside it.
 use Prim.Native.Nat.{ℕ, ◌+◌, ◌*◌, ◌≤◌, ◌<◌}
-use mathlib.Core.Path.{◌≡◌, refl, sym, ap, ◌∙◌}
+use mathlib.Core.Path.{◌≡◌, sym, ap, ◌∙◌}
 use Rattle.std.specs.Prelude.{Option, None, Some, option_map, MatchOption, IsSomeAnd}
 use mathlib.Core.List.{List}
 use native.Mathlib.Omega.{arith}
@@ -20,6 +20,7 @@ use Rattle.address.specs.Parts.{kept_value, kept_title}
 use Rattle.address.specs.declared.interpret.TitleValue.{TitleValue}
 use Rattle.address.specs.Steps.Plan.{HeldIn, Read}
 use Rattle.address.specs.declared.interpret.Interpreted.{Interpreted}
+use Rattle.address.proofs.Keeping.{map-map}
 use Rattle.address.proofs.Interpreted.{interpreted-read}
 use Rattle.address.proofs.Planning.{Sound, sound}
 
@@ -52,11 +53,7 @@ pub titled :
     (A : Alphabet) (v : List ℕ) (o : Option TitleValue) (k : Option Place)
     → option_map (λ (t : TitleValue). t.octets.now) o ≡ kept_value v k
     → option_map (λ (t : TitleValue). title_at A t.octets.now) o ≡ kept_title A v k
-titled A v o k e = sym (through o) ∙ ap (option_map (title_at A)) e
-  where
-    through : (o : Option TitleValue) → option_map (title_at A) (option_map (λ (t : TitleValue). t.octets.now) o) ≡ option_map (λ (t : TitleValue). title_at A t.octets.now) o
-    through None = refl
-    through (Some t) = refl
+titled A v o k e = sym (map-map (title_at A) (λ (t : TitleValue). t.octets.now) o) ∙ ap (option_map (title_at A)) e
 
 -- A title's octets are read without refusal, as a record with how many digits are absent.
 pub title_recorded :

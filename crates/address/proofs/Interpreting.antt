@@ -2,7 +2,7 @@
 use Prim.Native.Nat.{ℕ, ◌+◌, ◌≤◌, ◌<◌}
 use mathlib.Core.Path.{◌≡◌, refl, sym, ap, ◌∙◌}
 use mathlib.Core.Bool.{Bool, true, false}
-use Rattle.std.specs.Prelude.{Option, None, Some, option_map}
+use Rattle.std.specs.Prelude.{None, Some}
 use mathlib.Core.List.{List, [], ◌∷◌, map}
 use native.Mathlib.Omega.{arith}
 use borrow.Author.Tests.{le-leb, lt-leb, leb-true}
@@ -18,12 +18,12 @@ use Rattle.parameter.proofs.Walking.{places_inside}
 use Rattle.parameter.proofs.Structure.{places-parameters}
 use Rattle.address.specs.Address.{title_at, as_title, as_code, as_sub, last, others_in, routing_in, address_with, address_in, read_address, pieces}
 use Rattle.address.specs.Parts.{nothing, noted_title, noted_code, noted_ssn, noted_other, noted, note_all}
-use Rattle.address.specs.Parts.{kept_value, kept_title, kept_code, kept_sub}
+use Rattle.address.specs.Parts.{kept_title, kept_code, kept_sub}
 use Rattle.address.specs.Steps.Kept.{judged, kept_pieces}
 use Rattle.address.specs.Listing.{other_places}
 use Rattle.address.specs.declared.parts.Parts.{Parts}
 use Rattle.parameter.proofs.Records.{value-length}
-use Rattle.address.proofs.Keeping.{kinds, Inside, piece_by, piece_at, pieces-judged, judged-mapped, last_holds}
+use Rattle.address.proofs.Keeping.{kinds, Inside, piece_by, piece_at, pieces-judged, judged-mapped, map-map, last_holds}
 
 -- the four ways to note a sub-parameter
 abbrev pub by : Bool → Bool → Bool → Parts → Place → Parts
@@ -34,11 +34,6 @@ pub keeps_title : (s : Parts) (p : Place) → (noted s p).title ≡ pick (eqb p.
 unfolding noted
 keeps_title s p = kinds (λ a b c. (by a b c s p).title ≡ pick a (Some p) s.title) p.tag refl refl refl refl
 
--- What is told of the octets of what is kept.
-told : {X : Type 0} (f : List ℕ → X) (v : List ℕ) (k : Option Place) → option_map (λ p. f (valued v p).value) k ≡ option_map f (kept_value v k)
-told f v None = refl
-told f v (Some p) = refl
-
 module _ (A : Alphabet) (v : List ℕ) (ps : List Place) where
   pub title_holds : last as_title (map (piece_at A v) ps) ≡ kept_title A v (note_all nothing ps).title
   title_holds =
@@ -46,7 +41,7 @@ module _ (A : Alphabet) (v : List ℕ) (ps : List Place) where
       (λ p. kinds (λ a b c. as_title (piece_by A v a b c p) ≡ pick a (Some (title_at A (valued v p).value)) None) p.tag refl refl refl refl)
       keeps_title
       nothing ps
-      ∙ told (title_at A) v (note_all nothing ps).title
+      ∙ sym (map-map (title_at A) (λ p. (valued v p).value) (note_all nothing ps).title)
 
   pub code_holds : last as_code (map (piece_at A v) ps) ≡ kept_code v (note_all nothing ps).code
   unfolding noted
@@ -55,7 +50,7 @@ module _ (A : Alphabet) (v : List ℕ) (ps : List Place) where
       (λ p. kinds (λ a b c. as_code (piece_by A v a b c p) ≡ pick b (Some (four_in (valued v p).value)) None) p.tag refl refl refl refl)
       (λ s p. kinds (λ a b c. (by a b c s p).code ≡ pick b (Some p) s.code) p.tag refl refl refl refl)
       nothing ps
-      ∙ told four_in v (note_all nothing ps).code
+      ∙ sym (map-map four_in (λ p. (valued v p).value) (note_all nothing ps).code)
 
   pub sub_holds : last as_sub (map (piece_at A v) ps) ≡ kept_sub v (note_all nothing ps).ssn
   unfolding noted
@@ -64,7 +59,7 @@ module _ (A : Alphabet) (v : List ℕ) (ps : List Place) where
       (λ p. kinds (λ a b c. as_sub (piece_by A v a b c p) ≡ pick c (Some (get_or (valued v p).value 3 0)) None) p.tag refl refl refl refl)
       (λ s p. kinds (λ a b c. (by a b c s p).ssn ≡ pick c (Some p) s.ssn) p.tag refl refl refl refl)
       nothing ps
-      ∙ told (λ w. get_or w 3 0) v (note_all nothing ps).ssn
+      ∙ sym (map-map (λ w. get_or w 3 0) (λ p. (valued v p).value) (note_all nothing ps).ssn)
 
   pub others_hold : others_in (map (piece_at A v) ps) ≡ map (valued v) (other_places ps)
   others_hold = go ps

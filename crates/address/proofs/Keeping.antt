@@ -140,6 +140,11 @@ module _ (A : Alphabet) (v : List ℕ) where
       ∙ ap (mapped (λ zs. piece_at p ∷ zs)) (pieces-judged (noted s p) ps h.1)
       ∙ judged-mapped (λ zs. piece_at p ∷ zs) (note_all (noted s p) ps).short (accepted (map piece_at ps))
 
+-- What is told of what is told.
+pub map-map : {X Y Z : Type 0} (g : Y → Z) (f : X → Y) (o : Option X) → option_map g (option_map f o) ≡ option_map (λ x. g (f x)) o
+map-map g f None = refl
+map-map g f (Some x) = refl
+
 -- The later of three.
 pub later-later : {X : Type 0} (a b c : Option X) → later a (later b c) ≡ later (later a b) c
 later-later None b c = refl

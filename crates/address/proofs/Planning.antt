@@ -204,8 +204,7 @@ map-some f (Some x) = refl
 
 -- what is told of the octets of what is kept is there where it is
 pub kept-some : {X : Type 0} (f : List ℕ → X) (v : List ℕ) (k : Option Place) → is_some (option_map f (kept_value v k)) ≡ is_some k
-kept-some f v None = refl
-kept-some f v (Some p) = refl
+kept-some f v k = map-some f (kept_value v k) ∙ map-some (λ (p : Place). (valued v p).value) k
 
 -- A point code or an SSN takes eight octets.
 pub four-length : (f : ℕ → Param) → ((n : ℕ) → length (f n).value ≡ 4) → (o : Option ℕ) → run_length (param_of f o) ≡ pick (is_some o) 8 0

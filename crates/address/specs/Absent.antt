@@ -14,7 +14,7 @@ use Rattle.address.specs.declared.GlobalTitle.{GlobalTitle}
 abbrev pub absent_at : Alphabet → List ℕ → ℕ
 absent_at A v = get_or v 4 0 - length (title_at A v).digits
 
--- The record that a title's value is read as.
+-- The record that a title's value is read as (RFC 3868, 3.10.2.3; document 02, CR 7).
 abbrev pub record_at : Alphabet → List ℕ → GlobalTitle
 record_at A v = record_of (absent_at A v) (title_at A v)
 
@@ -26,7 +26,7 @@ title_value p = pick (eqb p.tag 0x8001) (Some p.value) None
 abbrev pub absent_among : Alphabet → List Param → ℕ
 absent_among A ps = unwrap_or (option_map (absent_at A) (last title_value ps)) 0
 
--- Of an address value that is read; where reading refuses, no answer has it.
+-- Of an address value that is read (RFC 3868, 3.10.2); where reading refuses, no answer has it.
 unfoldable pub absent_in : Alphabet → List ℕ → ℕ
 absent_in A v = absent_among A (accepted_or [] (parameters (drop 4 v)))
 

@@ -53,7 +53,7 @@ note_all s (p ∷ ps) = note_all (noted s p) ps
 unfoldable pub interpreted : List ℕ → Outcome Parts
 interpreted v = after (read_address built_in v) (λ a. mapped (note_all nothing) (places v 4))
 
--- The octets of what is kept.
+-- The octets of what is kept: a sub-parameter's value (RFC 3868, 3.10.2).
 abbrev pub kept_value : List ℕ → Option Place → Option (List ℕ)
 kept_value v = option_map (λ p. (valued v p).value)
 

@@ -4,7 +4,7 @@ use mathlib.Core.Path.{◌≡◌, refl, sym, ap, ap₂, ◌∙◌}
 use mathlib.Core.Bool.{true}
 use mathlib.Core.Logic.{inl, inr}
 use mathlib.Core.List.{List, [], ◌∷◌}
-use Rattle.bcd.specs.Outcome.{Outcome, accepted, after, mapped, each}
+use Rattle.bcd.specs.Outcome.{Outcome, accepted, mapped, each}
 use Rattle.bcd.specs.Digits.{Alphabet}
 use Rattle.parameter.specs.Parameter.{Param, param}
 use Rattle.address.specs.Address.{address_in, rewrite_address}
@@ -46,6 +46,13 @@ module _ (A : Alphabet) where
       ∙ ap₂ (λ tag o. mapped (λ a. address tag a ∷ []) o) t (short-reads-the-same A p.value q.value same)
       ∙ sym (part-address q (rw t at h))
 
+  meaning-read :
+      (xs : List ℕ) (m : Message)
+      → read_message xs ≡ accepted m
+      → meaning A xs ≡ mapped (λ ps. record { type = m.type; parts = ps }) (each (part_in A) m.params)
+  unfolding meaning
+  meaning-read xs m e = rw e
+
   module _
       (xs ys : List ℕ) (m n : Message)
       (hm : read_message xs ≡ accepted m)
@@ -55,11 +62,10 @@ module _ (A : Alphabet) where
     -- Messages that are read as one type, and as parameters that are the same but for what titles declare beyond the digits that
     -- they bring, mean the same.
     pub short_titles_mean : meaning A xs ≡ meaning A ys
-    unfolding meaning
     short_titles_mean =
-        ap (λ o. after o (λ m. mapped (λ ps. record { type = m.type; parts = ps }) (each (part_in A) m.params))) hm
+        meaning-read xs m hm
         ∙ ap₂ (λ t o. mapped (λ ps. record { type = t; parts = ps }) o) t (each_same (part_in A) part_same m.params n.params same)
-        ∙ sym (ap (λ o. after o (λ m. mapped (λ ps. record { type = m.type; parts = ps }) (each (part_in A) m.params))) hn)
+        ∙ sym (meaning-read ys n hn)
 
     -- They have the same form or the same refusal.
     pub short_titles_ignored : settled A xs ≡ settled A ys

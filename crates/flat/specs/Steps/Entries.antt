@@ -1,10 +1,11 @@
 -- What a walk over a flat list gives, record by record.
-use Rattle.std.specs.Prelude.{ℕ, ◌+◌, ◌≤◌, ◌≡◌, List, length, Option, None, Some, Result, Ok, Err}
+use Rattle.std.specs.Prelude.{ℕ, ◌+◌, ◌≤◌, List, length, Option, None, Some, Result, Ok, Err}
 use Rattle.bcd.specs.Outcome.{Outcome, accepted, refused}
 use Rattle.bcd.specs.Answers.{refusal_of}
 use Rattle.bcd.specs.declared.error.Refusal.{Refusal}
 use Rattle.parameter.specs.declared.Place.{Place}
 use Rattle.parameter.specs.Walk.{Walked, ended, found}
+use Rattle.parameter.specs.Items.{GivesBy}
 use Rattle.flat.specs.Flat.{flat_step}
 
 -- The end of the list, or a record's place; the next record starts behind the value.
@@ -13,11 +14,9 @@ entry_of (Ok None) = accepted ended
 entry_of (Ok (Some p)) = accepted (found p (p.start + p.length))
 entry_of (Err r) = refusal_of r
 
--- An item is what the step at the position finds, and the position moves on; after a refusal no octets are left.
+-- What the iterator gives, by the records of the list; 15.
 abbrev pub Gives : (xs : List ℕ) (at : ℕ) → Option (Result Place Refusal) → (left : List ℕ) (next : ℕ) → Type 0
-Gives xs at None left next = (left ≡ xs) × (accepted ended ≡ flat_step xs at)
-Gives xs at (Some (Ok p)) left next = (left ≡ xs) × (accepted (found p next) ≡ flat_step xs at)
-Gives xs at (Some (Err r)) left next = (length left ≡ 0) × (refusal_of r ≡ flat_step xs at)
+Gives = GivesBy flat_step
 
 -- Octets that are known, and fit in so many places.
 abbrev pub ListFits : Outcome (List ℕ) → (room : ℕ) → Type 0

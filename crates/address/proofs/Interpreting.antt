@@ -8,9 +8,9 @@ use native.Mathlib.Omega.{arith}
 use borrow.Author.Tests.{le-leb, lt-leb, leb-true}
 use lib.Dec.{eqb, leb}
 use lib.ListN.{length, get_or, drop}
-use Rattle.bcd.specs.Outcome.{accepted, refused, pick, mapped, All, most}
+use Rattle.bcd.specs.Outcome.{accepted, refused, pick, demand, mapped, All, most}
 use Rattle.bcd.specs.Digits.{Alphabet}
-use Rattle.bcd.proofs.Outcomes.{demand_inv, bounded-within, bounded_beyond}
+use Rattle.bcd.proofs.Outcomes.{never, demand_inv, bounded-within, bounded_beyond}
 use Rattle.parameter.specs.Parameter.{run_length, two_at, four_in}
 use Rattle.parameter.specs.Walk.{valued, places, parameters}
 use Rattle.parameter.specs.declared.Place.{Place}
@@ -135,6 +135,14 @@ module _ (A : Alphabet) (v : List ℕ) where
       read_unwalked n vs routing e =
           let params : parameters (drop 4 v) ≡ refused n vs = sym (places-parameters v 4) ∙ ap (mapped (map (valued v))) e in
           bounded-within v (address_in A v) within ∙ rw (le-leb 4 (length v) long, le-leb (two_at v 0) 4 routing, params)
+
+-- A routing indicator that is refused is refused as 8 with its number.
+pub unrouted : (n : ℕ) {k : ℕ} {vs : List ℕ} → refused k vs ≡ routing_in n → refused 8 (n ∷ []) ≡ routing_in n
+unrouted n {k} {vs} e = on (leb n 4) e
+  where
+    on : (t : Bool) → refused k vs ≡ demand t 8 (n ∷ []) (accepted n) → refused 8 (n ∷ []) ≡ demand t 8 (n ∷ []) (accepted n)
+    on true e = absurd (never e)
+    on false e = refl
 
 -- The routing indicator is small where it is one.
 pub routed : (n : ℕ) {i : ℕ} → accepted i ≡ routing_in n → n ≤ 4

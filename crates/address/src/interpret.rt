@@ -163,7 +163,10 @@ pub fn interpret(value: &[u8]) -> Result<Interpreted<'_>, Refusal>
             actual: n,
         });
     }
-    let routing = RoutingIndicator::from_u16(u16::from_be_bytes([value[0], value[1]]))?;
+    let indicator = u16::from_be_bytes([value[0], value[1]]);
+    let Ok(routing) = RoutingIndicator::from_u16(indicator) else {
+        return Err(Refusal::InvalidRoutingIndicator(indicator));
+    };
     let parts = survey(value)?;
     if let Some(short) = parts.short {
         return Err(too_short(short));

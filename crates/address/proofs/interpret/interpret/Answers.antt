@@ -16,7 +16,7 @@ use Rattle.address.specs.Parts.{nothing, note_all, interpreted}
 use Rattle.address.specs.Steps.Plan.{Walked}
 use Rattle.address.specs.declared.parts.Parts.{Parts}
 use Rattle.address.specs.declared.interpret.Interpreted.{Interpreted}
-use Rattle.address.proofs.Interpreting.{read_beyond, read_few, read_unrouted, read_unwalked, routed}
+use Rattle.address.proofs.Interpreting.{read_beyond, read_few, read_unrouted, read_unwalked, routed, unrouted}
 use Rattle.address.proofs.Interpreted.{read_short, read-interpreted, refused_interpreted}
 use Rattle.address.proofs.Planning.{mapped_refused, walked}
 use Rattle.address.proofs.interpret.interpret.Goals as goal
@@ -45,20 +45,20 @@ returns-in_err-within-clause-parts c =
 pub returns-then-n-lt4-clause-parts : goal.returns-then-n-lt4-clause-parts
 returns-then-n-lt4-clause-parts c = let v = c.args.value.now in refused_interpreted v _ _ (read_few built_in v (few_octets c.in_ok-within.ensures) c.if-n-lt4.true)
 
-pub returns-in_err-routing-clause-parts : goal.returns-in_err-routing-clause-parts
+pub returns-in_default-clause-parts : goal.returns-in_default-clause-parts
 unfolding two_at
-returns-in_err-routing-clause-parts c =
+returns-in_default-clause-parts c =
     let v = c.args.value.now in
-    let routing : c.from_be_bytes.result ≡ two_at v 0 = omega (arith, c.from_be_bytes.ensures) in
-    ap (mapped (λ (i : Interpreted). i.parts)) (exit c.from_residual-in_err-routing.result _ c.from_residual-in_err-routing.ensures.1)
-    ∙ refused_interpreted v _ _ (read_unrouted built_in v (few_octets c.in_ok-within.ensures) c.if-n-lt4.false _ _ (c.in_err-routing.ensures ∙ ap routing_in routing))
+    let routing : c.from_be_bytes-indicator.result ≡ two_at v 0 = omega (arith, c.from_be_bytes-indicator.ensures) in
+    let no = unrouted (two_at v 0) (c.in_default.ensures ∙ ap routing_in routing) in
+    rw routing (refused_interpreted v _ _ (read_unrouted built_in v (few_octets c.in_ok-within.ensures) c.if-n-lt4.false _ _ no))
 
 pub returns-in_err-parts-clause-parts : goal.returns-in_err-parts-clause-parts
 unfolding two_at
 returns-in_err-parts-clause-parts c =
     let v = c.args.value.now in
-    let routing : c.from_be_bytes.result ≡ two_at v 0 = omega (arith, c.from_be_bytes.ensures) in
-    let small = routed (two_at v 0) (c.in_ok-routing.ensures ∙ ap routing_in routing) in
+    let routing : c.from_be_bytes-indicator.result ≡ two_at v 0 = omega (arith, c.from_be_bytes-indicator.ensures) in
+    let small = routed (two_at v 0) (c.in-Ok.ensures ∙ ap routing_in routing) in
     ap (mapped (λ (i : Interpreted). i.parts)) (exit c.from_residual-in_err-parts.result _ c.from_residual-in_err-parts.ensures.1)
     ∙ refused_interpreted v _ _
     (read_unwalked built_in v (few_octets c.in_ok-within.ensures) c.if-n-lt4.false _ _ small
@@ -68,31 +68,31 @@ pub returns-in-Some-clause-parts : goal.returns-in-Some-clause-parts
 unfolding two_at
 returns-in-Some-clause-parts c =
     let v = c.args.value.now in
-    let routing : c.from_be_bytes.result ≡ two_at v 0 = omega (arith, c.from_be_bytes.ensures) in
+    let routing : c.from_be_bytes-indicator.result ≡ two_at v 0 = omega (arith, c.from_be_bytes-indicator.ensures) in
     let k = known v c.in_ok-parts.parts (octets-of v (λ i. (c.type_inv.value i).fits)) (few_octets c.in_ok-within.ensures) c.if-n-lt4.false
-    (c.in_ok-routing.ensures ∙ ap routing_in routing) c.in_ok-parts.ensures in
+    (c.in-Ok.ensures ∙ ap routing_in routing) c.in_ok-parts.ensures in
     refused_interpreted v _ _ (read_short k c.in-Some.short c.in-Some.is ∙ ap (λ (n : ℕ × List ℕ). refused n.0 n.1) (sym c.too_short.ensures))
 
 pub invariant_of-result : goal.invariant_of-result
 unfolding two_at
 invariant_of-result c =
     let v = c.args.value.now in
-    let routing : c.from_be_bytes.result ≡ two_at v 0 = omega (arith, c.from_be_bytes.ensures) in
+    let routing : c.from_be_bytes-indicator.result ≡ two_at v 0 = omega (arith, c.from_be_bytes-indicator.ensures) in
     record {
       long = c.if-n-lt4.false;
       within = (few_octets c.in_ok-within.ensures);
       fits = λ i. (c.type_inv.value i).fits;
-      routed = c.in_ok-routing.ensures ∙ ap routing_in routing;
+      routed = c.in-Ok.ensures ∙ ap routing_in routing;
       read = whole v c.in_ok-parts.parts
           (known v c.in_ok-parts.parts (octets-of v (λ i. (c.type_inv.value i).fits)) (few_octets c.in_ok-within.ensures) c.if-n-lt4.false
-          (c.in_ok-routing.ensures ∙ ap routing_in routing) c.in_ok-parts.ensures) c.in_default.is;
+          (c.in-Ok.ensures ∙ ap routing_in routing) c.in_ok-parts.ensures) c.in_default-short.is;
     }
 
 pub returns-clause-parts : goal.returns-clause-parts
 unfolding two_at
 returns-clause-parts c =
     let v = c.args.value.now in
-    let routing : c.from_be_bytes.result ≡ two_at v 0 = omega (arith, c.from_be_bytes.ensures) in
+    let routing : c.from_be_bytes-indicator.result ≡ two_at v 0 = omega (arith, c.from_be_bytes-indicator.ensures) in
     whole v c.in_ok-parts.parts
     (known v c.in_ok-parts.parts (octets-of v (λ i. (c.type_inv.value i).fits)) (few_octets c.in_ok-within.ensures) c.if-n-lt4.false
-    (c.in_ok-routing.ensures ∙ ap routing_in routing) c.in_ok-parts.ensures) c.in_default.is
+    (c.in-Ok.ensures ∙ ap routing_in routing) c.in_ok-parts.ensures) c.in_default-short.is

@@ -11,3 +11,4 @@ pub mod Writable
 pub mod Reading
 pub mod Digits
 pub mod Rewriting
+pub mod Worked

@@ -55,12 +55,13 @@ le_or_lt a b = told (leb a b) refl
     told true e = inl (leb-true a b e)
     told false e = inr (leb-false a b e)
 
--- at most 1,048,576 octets, and more
-pub bounded-within : {A : Type 0} (xs : List ℕ) (o : Outcome A) → length xs ≤ most → bounded xs o ≡ o
-bounded-within xs o h = rw (le-leb (length xs) most h)
+-- Up to 1,048,576 octets nothing is refused as 12 ..
+pub bounded-within : {A : Type 0} (xs : List ℕ) (o : Outcome A) → length xs ≤ 1048576 → bounded xs o ≡ o
+bounded-within xs o h = rw (le-leb (length xs) 1048576 h)
 
-pub bounded_beyond : {A : Type 0} (xs : List ℕ) (o : Outcome A) → most < length xs → bounded xs o ≡ refused 12 (length xs ∷ [])
-bounded_beyond xs o h = rw (lt-leb (length xs) most h)
+-- .. and above them everything.
+pub bounded_beyond : {A : Type 0} (xs : List ℕ) (o : Outcome A) → 1048576 < length xs → bounded xs o ≡ refused 12 (length xs ∷ [])
+bounded_beyond xs o h = rw (lt-leb (length xs) 1048576 h)
 
 module _ {A B : Type 0} (f : A → Outcome (List B)) where
   pub each-cons : (x : A) (xs : List A) (us vs : List B) → f x ≡ accepted us → each f xs ≡ accepted vs → each f (x ∷ xs) ≡ accepted (us ++ vs)

@@ -2,4 +2,5 @@
 pub mod Outcome
 pub mod Answers
 pub mod Digits
+pub mod Worked
 pub mod Steps

@@ -17,13 +17,15 @@ use Rattle.parameter.specs.Parameter.{Param, two, four_in, padded_length, param_
 use Rattle.parameter.specs.Walk.{Walked, taken, step_at, decode_param}
 use Rattle.parameter.proofs.RoundTrip.{octets-length}
 
-pub wire_beyond : (tag n : ℕ) → most_value < n → wire_length tag n ≡ refused 10 (tag ∷ n ∷ [])
+-- A value above 65,531 octets is refused as 10 ..
+pub wire_beyond : (tag n : ℕ) → 65531 < n → wire_length tag n ≡ refused 10 (tag ∷ n ∷ [])
 unfolding wire_length
-wire_beyond tag n h = rw (lt-leb n most_value h)
+wire_beyond tag n h = rw (lt-leb n 65531 h)
 
-pub wire_within : (tag n : ℕ) → n ≤ most_value → wire_length tag n ≡ accepted (padded_length n)
+-- .. and no other is.
+pub wire_within : (tag n : ℕ) → n ≤ 65531 → wire_length tag n ≡ accepted (padded_length n)
 unfolding wire_length
-wire_within tag n h = rw (le-leb n most_value h)
+wire_within tag n h = rw (le-leb n 65531 h)
 
 -- the wire length is the length of what is written
 pub wire_encode : (p : Param) → mapped length (encode_param p) ≡ wire_length p.tag (length p.value)
@@ -32,13 +34,14 @@ wire_encode p =
     mapped-demand (leb (length p.value) most_value) 10 _ length (accepted (param_octets p))
     ∙ ap (λ (n : ℕ). demand (leb (length p.value) most_value) 10 (p.tag ∷ length p.value ∷ []) (accepted n)) (octets-length p)
 
-pub encode_within : (p : Param) → length p.value ≤ most_value → encode_param p ≡ accepted (param_octets p)
+-- So is writing one.
+pub encode_within : (p : Param) → length p.value ≤ 65531 → encode_param p ≡ accepted (param_octets p)
 unfolding encode_param
-encode_within p h = rw (le-leb (length p.value) most_value h)
+encode_within p h = rw (le-leb (length p.value) 65531 h)
 
-pub encode_beyond : (p : Param) → most_value < length p.value → encode_param p ≡ refused 10 (p.tag ∷ length p.value ∷ [])
+pub encode_beyond : (p : Param) → 65531 < length p.value → encode_param p ≡ refused 10 (p.tag ∷ length p.value ∷ [])
 unfolding encode_param
-encode_beyond p h = rw (lt-leb (length p.value) most_value h)
+encode_beyond p h = rw (lt-leb (length p.value) 65531 h)
 
 pub number_short : (v : List ℕ) → length v < 4 → number_in v ≡ None
 unfolding number_in

@@ -2,9 +2,9 @@
 ghost use Rattle.std.specs.Prelude.{◌≡◌, ◌≤◌, length};
 ghost use Rattle.parameter.specs.Parameter.{most_value};
 
-use crate::is_address;
+use crate::{is_address, is_hop_counter};
 use bcd::error::Refusal;
-use parameter::{Place, tags};
+use parameter::Place;
 
 // A parameter as a message holds it, with a value that a length of 16 bits can tell.
 #[derive(Clone, Copy)]
@@ -43,7 +43,7 @@ impl<'a> Item<'a> {
             let n = address::rewrite::rewritten_length(self.tag, self.value)?;
             return parameter::wire_length(self.tag, n);
         }
-        if self.tag == tags::SS7_HOP_COUNTER {
+        if is_hop_counter(self.tag) {
             return Ok(0);
         }
         parameter::wire_length(self.tag, self.value.len())
@@ -59,7 +59,7 @@ impl<'a> Item<'a> {
             let n = address::rewrite::rewrite_as_read(self.tag, self.value, &mut out[4..])?;
             return parameter::frame(self.tag, n, out);
         }
-        if self.tag == tags::SS7_HOP_COUNTER {
+        if is_hop_counter(self.tag) {
             return Ok(0);
         }
         parameter::encode(self.tag, self.value, out)

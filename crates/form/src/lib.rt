@@ -8,7 +8,7 @@ ghost use Rattle.bcd.specs.Outcome.{after, mapped, most, delivered, deliver};
 ghost use Rattle.bcd.specs.Answers.{outcome_of};
 ghost use Rattle.bcd.specs.Digits.{built_in};
 ghost use Rattle.parameter.specs.Parameter.{run_octets, run_length};
-ghost use Rattle.form.specs.Form.{is_address, settled_param, settled};
+ghost use Rattle.form.specs.Form.{is_address, is_hop_counter, settled_param, settled};
 ghost use Rattle.form.specs.Steps.Passes.{held, settled_run, sum_of, Placeable};
 
 use crate::item::Item;
@@ -21,6 +21,13 @@ pub fn is_address(tag: u16) -> bool
     ensures { result ≡ is_address tag }
 {
     matches!(tag, tags::SOURCE_ADDRESS | tags::DESTINATION_ADDRESS)
+}
+
+// Whether a parameter is a hop counter, which no form has.
+fn is_hop_counter(tag: u16) -> bool
+    ensures { result ≡ is_hop_counter tag }
+{
+    tag == tags::SS7_HOP_COUNTER
 }
 
 // The sum with one parameter more, or the refusal that came first.

@@ -1,7 +1,6 @@
 -- `form::item::Item::put` meets its contract, for an address, a hop counter and any other parameter.
 use mathlib.Core.Path.{refl, sym, ◌∙◌}
 use Rattle.form.proofs.Placing.{counter_placed, raw_placed, room_for_head, never_refused, address_placed}
-use borrow.Author.Tests.{eq-eqb, ne_eqb}
 use Rattle.form.proofs.item.Item.put.Goals as goal
 
 pub slice_bounds-rewrite_as_read-count : goal.slice_bounds-rewrite_as_read-count
@@ -22,10 +21,11 @@ returns-then-is_address c =
     address_placed c.args.self c.args.out.now (sym c.is_address.ensures ∙ c.if-is_address.true) c.requires
     _ c.rewrite_as_read.new.out c.in_ok-n.ensures c.in_ok-n.n _ _ refl c.frame.ensures
 
-pub returns-then-self-eq-SS7_HOP_COUNTER : goal.returns-then-self-eq-SS7_HOP_COUNTER
-returns-then-self-eq-SS7_HOP_COUNTER c = counter_placed c.args.self c.args.out.now (eq-eqb _ _ c.if-self-eq-SS7_HOP_COUNTER.true)
+pub returns-then-is_hop_counter : goal.returns-then-is_hop_counter
+returns-then-is_hop_counter c =
+    counter_placed c.args.self c.args.out.now (sym c.is_hop_counter.ensures ∙ c.if-is_hop_counter.true)
 
 pub returns : goal.returns
 returns c =
     raw_placed c.args.self c.args.out.now _
-    (sym c.is_address.ensures ∙ c.if-is_address.false) (ne_eqb _ _ c.if-self-eq-SS7_HOP_COUNTER.false) c.encode.ensures
+    (sym c.is_address.ensures ∙ c.if-is_address.false) (sym c.is_hop_counter.ensures ∙ c.if-is_hop_counter.false) c.encode.ensures

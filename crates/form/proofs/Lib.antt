@@ -2,6 +2,7 @@
 pub mod Tags
 pub mod Worked
 pub mod Settling
+pub mod TagsKept
 pub mod ShortTitles
 pub mod Family
 pub mod Forms

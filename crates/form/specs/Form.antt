@@ -39,6 +39,11 @@ pub data Part : Type 0 where
   raw : Param → Part
   address : (tag : ℕ) → Address → Part
 
+-- A part's tag.
+abbrev pub part_tag : Part → ℕ
+part_tag (raw p) = p.tag
+part_tag (address tag a) = tag
+
 unfoldable pub part_in : Alphabet → Param → Outcome (List Part)
 part_in A p =
     pick (is_address p.tag) (mapped (λ a. address p.tag a ∷ []) (address_in A p.value))

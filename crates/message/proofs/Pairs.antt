@@ -3,7 +3,7 @@ use Prim.Native.Nat.{ℕ, zero, suc, ◌+◌, ◌≤◌}
 use mathlib.Core.Path.{◌≡◌, refl, sym, ap, ap₂, ◌∙◌}
 use mathlib.Core.Bool.{Bool, true, false, ◌&&◌}
 use mathlib.Core.Logic.{⊎_elim}
-use mathlib.Core.List.{List, [], ◌∷◌}
+use mathlib.Core.List.{List, [], ◌∷◌, map}
 use native.Mathlib.Omega.{arith}
 use native.Mathlib.Nat.{zero-add}
 use lib.Dec.{leb, eqb, lit≤}
@@ -13,7 +13,7 @@ use Rattle.bcd.proofs.Outcomes.{accepted_inj, never, le_or_lt}
 use Rattle.bcd.proofs.Below.{both}
 use Rattle.message.specs.declared.types.MessageType.{MessageType}
 use Rattle.message.specs.declared.types.MessageType.TheVariants as T
-use Rattle.message.specs.Types.{first, class_of, type_of, message_types, from_class_type, known, sum_below, known_pairs}
+use Rattle.message.specs.Types.{first, class_octet, message_classes, class_and_type, class_of, type_of, message_types, the_pairs, from_class_type, known, sum_below, known_pairs}
 
 off : (t : Bool) → (t ≡ true → ⊥) → t ≡ false
 off true h = absurd (h refl)
@@ -44,6 +44,13 @@ module _ {A : Type 0} (test : A → Bool) where
   first_none f (x ∷ xs) other out e =
       let (here, others) = both (f x) (every f xs) e in
       rw (off (test x) (out x here)) (first_none f xs other out others)
+
+-- The types in the RFC's order have these pairs, and the classes these octets.
+pub pairs_in_order : map class_and_type message_types ≡ the_pairs
+pairs_in_order = refl
+
+pub classes_in_order : map class_octet message_classes ≡ 0 ∷ 2 ∷ 3 ∷ 4 ∷ 7 ∷ 8 ∷ 9 ∷ []
+classes_in_order = refl
 
 -- A type that was found has that pair ..
 pub type_of_pair : (c t : ℕ) (m : MessageType) → from_class_type c t ≡ accepted m → (c ≡ class_of m) × (t ≡ type_of m)

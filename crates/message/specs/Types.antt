@@ -82,6 +82,17 @@ message_types =
     ∷ T.Core ∷ T.Coak ∷ T.Coref ∷ T.Relre ∷ T.Relco ∷ T.Resco ∷ T.Resre ∷ T.Codt ∷ T.Coda ∷ T.Coerr ∷ T.Coit
     ∷ T.RegReq ∷ T.RegRsp ∷ T.DeregReq ∷ T.DeregRsp ∷ []
 
+-- Their pairs as numbers, in the RFC's order (RFC 3868, 3.1.3; `pairs_in_order`).
+abbrev pub the_pairs : List (ℕ × ℕ)
+the_pairs =
+    (0, 0) ∷ (0, 1)
+    ∷ (2, 1) ∷ (2, 2) ∷ (2, 3) ∷ (2, 4) ∷ (2, 5) ∷ (2, 6)
+    ∷ (3, 1) ∷ (3, 2) ∷ (3, 3) ∷ (3, 4) ∷ (3, 5) ∷ (3, 6)
+    ∷ (4, 1) ∷ (4, 2) ∷ (4, 3) ∷ (4, 4)
+    ∷ (7, 1) ∷ (7, 2)
+    ∷ (8, 1) ∷ (8, 2) ∷ (8, 3) ∷ (8, 4) ∷ (8, 5) ∷ (8, 6) ∷ (8, 7) ∷ (8, 8) ∷ (8, 9) ∷ (8, 10) ∷ (8, 11)
+    ∷ (9, 1) ∷ (9, 2) ∷ (9, 3) ∷ (9, 4) ∷ []
+
 -- The message type of a class and a type; any other pair is refused as 4.
 unfoldable pub from_class_type : (class type : ℕ) → Outcome MessageType
 from_class_type class type =

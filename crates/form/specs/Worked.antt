@@ -4,7 +4,7 @@ use Rattle.std.specs.Prelude.{ℕ, ◌≡◌, true, List, [], ◌∷◌, ◌++�
 use Rattle.std.specs.Prelude.{None, Some}
 use Rattle.bcd.specs.Outcome.{Outcome, accepted, refused}
 use Rattle.bcd.specs.Digits.{built_in, read_digits, write_digits}
-use Rattle.parameter.specs.Parameter.{param, four}
+use Rattle.parameter.specs.Parameter.{param, words}
 use Rattle.address.specs.Address.{Address, read_address}
 use Rattle.message.specs.declared.types.MessageType.TheVariants as T
 use Rattle.message.specs.Message.{Message, message, read_message}
@@ -24,11 +24,6 @@ Holds (settles xs o) = settled built_in xs ≡ o
 Holds (address_reads v o) = read_address built_in v ≡ o
 Holds (digits_read xs count o) = read_digits built_in xs count ≡ o
 Holds (digits_write cs o) = write_digits built_in cs ≡ o
-
--- Octets, four to a word.
-abbrev pub words : List ℕ → List ℕ
-words [] = []
-words (w ∷ ws) = four w ++ words ws
 
 abbrev pub asp : List ℕ
 asp = words (0x01000301 ∷ 0x00000008 ∷ [])

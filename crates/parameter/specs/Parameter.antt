@@ -27,6 +27,11 @@ four n = two (n / 65536) ++ two (n % 65536)
 abbrev pub four_in : List ℕ → ℕ
 four_in v = two_at v 0 * 65536 + two_at v 2
 
+-- The octets of 32-bit words, in which worked messages are written.
+abbrev pub words : List ℕ → List ℕ
+words [] = []
+words (w ∷ ws) = four w ++ words ws
+
 -- Rounded up to a multiple of 4.
 abbrev pub round_up : ℕ → ℕ
 round_up n = (n + 3) / 4 * 4

@@ -2,7 +2,7 @@
 -- not convert.
 use Rattle.std.specs.Prelude.{ℕ, ◌≡◌, List, [], ◌∷◌, ◌++◌, replicate}
 use Rattle.bcd.specs.Outcome.{accepted, refused}
-use Rattle.parameter.specs.Parameter.{four}
+use Rattle.parameter.specs.Parameter.{words}
 use Rattle.sccp.specs.Sccp.{to_sccp, from_sccp}
 
 -- What converts both ways, and what is refused, with the refusal's number.
@@ -15,11 +15,6 @@ abbrev pub Holds : Example → Type 0
 Holds (converts value party) = (to_sccp value ≡ accepted party) × (from_sccp party ≡ accepted value)
 Holds (refused_to value n) = to_sccp value ≡ refused n []
 Holds (refused_from party n) = from_sccp party ≡ refused n []
-
--- Octets, four to a word.
-abbrev pub words : List ℕ → List ℕ
-words [] = []
-words (w ∷ ws) = four w ++ words ws
 
 abbrev pub converted : List Example
 converted =

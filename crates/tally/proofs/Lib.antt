@@ -13,6 +13,7 @@ pub mod LongestMember
 pub mod Destinations
 pub mod Looking
 pub mod Meaning
+pub mod Tags
 pub mod Gaining
 pub mod Placing
 pub mod Raising

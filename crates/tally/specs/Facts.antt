@@ -3,9 +3,9 @@
 use Rattle.std.specs.Prelude.{ℕ, ◌+◌, ◌*◌, ◌≤◌, ◌<◌, ◌≡◌, true, false, length, sum, get_or}
 use mathlib.Core.List.{List, [], ◌∷◌, zip_with}
 use Rattle.bcd.specs.Outcome.{Outcome, All}
-use Rattle.parameter.specs.Parameter.{most_value}
+use Rattle.form.specs.Form.{Part, part_tag}
 use Rattle.tally.specs.Members.{begins}
-use Rattle.tally.specs.Rows.{Rows, rows, no_rows, most_messages}
+use Rattle.tally.specs.Rows.{Rows, rows, no_rows}
 use Rattle.tally.specs.Tally.{day}
 
 -- The members of a list by document 02's rules: 1 to 64 prefixes, each of 1 to 15 decimal digits, no two the same.
@@ -32,8 +32,12 @@ pub record NoneAt (ps : List (List ℕ)) (ds : List ℕ) (place : ℕ) : Type 0 
 pub record OpenRows (members : ℕ) (r : Rows) : Type 0 where
   pub messages : length r.messages ≡ members + 2
   pub octets : length r.octets ≡ members + 2
-  pub few : sum r.messages < most_messages
-  pub covered : (i : ℕ) → get_or r.octets i 0 ≤ most_value * get_or r.messages i 0
+  pub few : sum r.messages < 4294967295
+  pub covered : (i : ℕ) → get_or r.octets i 0 ≤ 65531 * get_or r.messages i 0
+
+-- No part of a meaning has this tag (`first_data`, `first_destination`).
+abbrev pub Without : (tag : ℕ) → List Part → Type 0
+Without tag = All (λ (q : Part). part_tag q ≡ tag → ⊥)
 
 -- A day from two rows more than members, all at 0.
 abbrev pub whole_day : (digits lengths : List ℕ) → List (List ℕ) → Outcome Rows
@@ -46,7 +50,7 @@ Apart most m n = (m ≤ n + most) × (n ≤ m + most)
 -- No row differs by more than one message and 65,531 octets.
 pub record Near (r s : Rows) : Type 0 where
   pub messages : (i : ℕ) → Apart 1 (get_or r.messages i 0) (get_or s.messages i 0)
-  pub octets : (i : ℕ) → Apart most_value (get_or r.octets i 0) (get_or s.octets i 0)
+  pub octets : (i : ℕ) → Apart 65531 (get_or r.octets i 0) (get_or s.octets i 0)
 
 -- Rows added row by row: two tallies, and any number of them.
 unfoldable pub plus : Rows → Rows → Rows

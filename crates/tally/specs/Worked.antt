@@ -1,6 +1,6 @@
 -- A worked day: three members, and a message for each way that a message goes.
 use Rattle.std.specs.Prelude.{ℕ, List, [], ◌∷◌, ◌++◌}
-use Rattle.form.specs.Worked.{words}
+use Rattle.parameter.specs.Parameter.{words}
 use Rattle.tally.specs.Rows.{Rows, rows}
 
 -- The members 44, 4477 and 1202.

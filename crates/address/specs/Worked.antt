@@ -1,6 +1,8 @@
--- Worked titles that ran short, and addresses with two titles (document 02, CR 7).
-use Rattle.std.specs.Prelude.{ℕ, List, [], ◌∷◌, map}
-use Rattle.parameter.specs.Parameter.{param, run_octets}
+-- Worked addresses: one with every part, one with nothing but an include bit, titles that ran short, and addresses with two titles
+-- (document 02, CR 7).
+use Rattle.std.specs.Prelude.{ℕ, true, false, List, [], ◌∷◌, map, None, Some}
+use Rattle.parameter.specs.Parameter.{param, run_octets, words}
+use Rattle.address.specs.Address.{Address}
 
 -- A title's value that declares so many digits and brings these octets.
 abbrev pub declaring : (count : ℕ) → List ℕ → List ℕ
@@ -29,4 +31,28 @@ titled_addresses =
     (with_titles (declaring 4 (0x21 ∷ 0x03 ∷ []) ∷ declaring 9 (0x21 ∷ 0x03 ∷ []) ∷ []), 5)
     ∷ (with_titles (declaring 9 (0x21 ∷ 0x03 ∷ []) ∷ declaring 4 (0x21 ∷ 0x03 ∷ []) ∷ []), 0)
     ∷ (with_titles [], 0)
+    ∷ []
+
+-- An address value with a title, a point code, an SSN and an IPv4 address, whose include bits are 4 and 1; and one with bit 2 alone.
+-- Each with what it is read as.
+abbrev pub read_addresses : List (List ℕ × Address)
+read_addresses =
+    (words
+    (0x00030005
+    ∷ 0x8001000D ∷ 0x01020304 ∷ 0x01060708 ∷ 0x05000000
+    ∷ 0x80020008 ∷ 0xAABBCCDD
+    ∷ 0x80030008 ∷ 0x11223344
+    ∷ 0x80040005 ∷ 0x41000000 ∷ []),
+    record {
+      routing = 3;
+      gt = true;
+      pc = false;
+      ssn = true;
+      title = Some (record { gti = 4; tt = 6; np = 7; noa = 8; digits = 0x35 ∷ [] });
+      code = Some 0xAABBCCDD;
+      sub = Some 0x44;
+      others = param 0x8004 (0x41 ∷ []) ∷ [];
+    })
+    ∷ (words (0x0004FFFA ∷ []),
+    record { routing = 4; gt = false; pc = true; ssn = false; title = None; code = None; sub = None; others = [] })
     ∷ []

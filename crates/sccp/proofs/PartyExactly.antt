@@ -5,13 +5,13 @@ use mathlib.Core.Bool.{Bool, true, false}
 use mathlib.Core.Logic.{◌⊎◌, inl, inr, ⊎_elim, ◌↔◌}
 use mathlib.Core.List.{List, [], ◌∷◌, ◌++◌}
 use native.Mathlib.Omega.{arith}
-use borrow.Author.Tests.{le-leb, leb-true}
+use borrow.Author.Tests.{le-leb, leb-true, eq-eqb}
 use lib.Dec.{leb}
 use lib.ListN.{length, get_or, drop, length-drop}
 use Rattle.std.specs.Prelude.{Option, None, Some, is_some}
 use Rattle.bcd.specs.Outcome.{Outcome, accepted, pick, after, mapped, Octets, most}
 use Rattle.bcd.specs.Digits.{built_in, digits_in}
-use Rattle.bcd.proofs.Outcomes.{never, after_inv, mapped_inv, demand_inv, all_drop}
+use Rattle.bcd.proofs.Outcomes.{never, after_inv, mapped_inv, demand_inv, all_drop, le_or_lt}
 use Rattle.address.specs.Address.{Title, Address, bit, write_address}
 use Rattle.sccp.specs.Sccp.{with_parts, code_in, sub_in, digits_of, title_in, nothing_left, title_by, sccp_in, absent_or, code_octets, sub_octets, from_sccp}
 use Rattle.sccp.specs.Facts.{DigitsConvert, TitlePartConverts, title_start, PartyConverts}
@@ -57,6 +57,17 @@ digits_from scheme xs d =
     (λ (s, some, n). rw (s, le-leb 1 (length xs) some, ← n, few, d.filler, known))
     (λ (s, n). rw (s, ← n, few, d.filler, known))
     d.by
+
+-- A party address whose first octet is below 64 is routed on its title, any other on SSN and point code.
+pub routing_bit : (i : ℕ) (xs : List ℕ) (a : Address) → Octets xs → sccp_in (i ∷ xs) ≡ accepted a → ((i < 64) × (a.routing ≡ 1)) ⊎ ((64 ≤ i) × (a.routing ≡ 2))
+routing_bit i xs a o e =
+    let h = party_inv i xs a o e in
+    let small = leb-true i 127 h.small in
+    let routing : a.routing ≡ pick (bit 64 i) 2 1 = ap (λ (a : Address). a.routing) (sym h.address) in
+    ⊎_elim
+    (λ large. let one : i / 64 % 2 ≡ 1 = omega arith in inr (large, rw (eq-eqb _ _ one) at routing))
+    (λ less. let none : i / 64 % 2 ≡ 0 = omega arith in inl (less, rw none at routing))
+    (le_or_lt 64 i)
 
 -- A title.
 title_to : (xs : List ℕ) (t : Option Title) → title_in xs ≡ accepted t → TitlePartConverts xs

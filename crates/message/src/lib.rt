@@ -17,7 +17,7 @@ use bcd::error::Refusal;
 use header::{CommonHeader, put_header};
 use parameter::Place;
 use parameter::table::{Records, decode_parameters_from};
-pub use pieces::point_codes;
+pub use pieces::point_codes::{pack_affected_point_codes, unpack_affected_point_codes};
 use types::MessageType;
 
 // A message's type and the number of its parameters: the first records of a lent table.

@@ -10,7 +10,7 @@ use bcd::error::Refusal;
 use form::settle;
 use message::SuaMessage;
 use message::header::CommonHeader;
-use message::point_codes::pack_affected_point_codes;
+use message::pack_affected_point_codes;
 use message::types::MessageType;
 use parameter::table::Records;
 

@@ -7,7 +7,7 @@ use crate::reply::Reply;
 use address::SuaAddress;
 use bcd::error::Refusal;
 use message::SuaMessage;
-use message::point_codes::unpack_affected_point_codes;
+use message::unpack_affected_point_codes;
 use parameter::Place;
 use parameter::table::{Records, decode_parameters};
 

@@ -10,7 +10,7 @@ use lib.ListN.{length, get_or, take, drop, replicate, take-append-drop}
 use lib.Seq.{take-suc, split_at}
 use lib.Dec.{leb}
 use borrow.Author.Tests.{le-leb, lt-leb, leb-true, leb-false}
-use Rattle.bcd.specs.Outcome.{Outcome, accepted, refused, after, demand, mapped, each, All, Octets, most, bounded, Delivered, deliver}
+use Rattle.bcd.specs.Outcome.{Outcome, accepted, refused, after, demand, mapped, each, All, Octets, bounded, Delivered, deliver}
 
 pub accepted_inj : {A : Type 0} {a b : A} → ◌≡◌ {A = Outcome A} (accepted a) (accepted b) → a ≡ b
 accepted_inj e = cc

@@ -11,3 +11,4 @@ pub mod AccountDone
 pub mod Lines
 pub mod Printing
 pub mod Program
+pub mod Worked

@@ -2,4 +2,5 @@
 pub mod Flat
 pub mod Line
 pub mod Account
+pub mod Worked
 pub mod Steps

@@ -1,4 +1,6 @@
--- Records in three lent slices of numbers, tag, start and length: the form in which C lends a table.
+-- Records told by three slices of numbers: their tags, their starts and their lengths. No call takes such slices, and none has a
+-- contract by these definitions: a table is one slice of records, and `tabulate` and `list_message` say what reading stores there.
+-- `rows-columns`, `message-rows-columns` and `columns-rows` say that three slices would tell neither more nor less.
 use Rattle.std.specs.Prelude.{ℕ, min, List, [], ◌∷◌, map, length, leb}
 use Rattle.bcd.specs.Outcome.{Outcome, accepted, refused, pick, after, mapped}
 use Rattle.parameter.specs.declared.Place.{Place}
@@ -17,7 +19,7 @@ pub record Columns : Type 0 where
 unfoldable pub room : Columns → ℕ
 room t = min (length t.tags) (min (length t.starts) (length t.lengths))
 
--- What a call that reads into three slices answers, and what they then hold.
+-- What a call that reads into three slices would answer, and what they would then hold.
 pub record Stored (A : Type 0) : Type 0 where
   pub answer : Outcome A
   pub columns : Columns

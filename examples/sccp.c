@@ -1,32 +1,18 @@
 /*
- * Converts the addresses on standard input, one on a line in lowercase hexadecimal: `sccp to` address values of SUA to party
- * addresses of SCCP, `sccp from` back. Prints each in hexadecimal, or the number refused with its values.
+ * Converts the addresses on standard input, one on a line in hexadecimal: `sccp to` address values of SUA to party addresses of
+ * SCCP, `sccp from` back. Prints each in hexadecimal, or the number refused with its values. An empty line is an address of no
+ * octets. Ends with status 1 where one was refused, and with 2 where a line is none, or reading or printing fails (streams.h).
  *
  *     bin/library
  *     cc -I include -o target/sccp examples/sccp.c target/lib/libsua.a
  */
 #include <stdio.h>
 #include <string.h>
+#include "streams.h"
 #include "sua.h"
 
 static uint8_t input[1048577], out[160]; /* one octet more than is accepted, and the longest address value */
 static const char values[] = {0, 2, 1, 1, 2, 2, 3, 1, 1, 1, 2, 1, 1, 1, 1, 0, 0, 0, 0}; /* how many a refusal has, by number */
-
-static int half(int c) { return c <= '9' ? c - '0' : c - 'a' + 10; }
-
-/* Reads a line into the input; 0 where there is none. */
-static int next(size_t *n)
-{
-    int c;
-
-    *n = 0;
-    while ((c = getchar()) != EOF && c != '\n') {
-        uint8_t octet = (uint8_t)(half(c) << 4 | half(getchar()));
-        if (*n < sizeof input)
-            input[(*n)++] = octet;
-    }
-    return c != EOF;
-}
 
 int main(int argc, char **argv)
 {
@@ -38,7 +24,7 @@ int main(int argc, char **argv)
         fprintf(stderr, "sccp to, or sccp from\n");
         return 2;
     }
-    while (next(&n)) {
+    while (read_line(input, sizeof input, &n)) {
         if (strcmp(argv[1], "to") == 0)
             sua_to_sccp(input, n, out, sizeof out, report, 4);
         else
@@ -54,5 +40,6 @@ int main(int argc, char **argv)
         }
         putchar('\n');
     }
+    close_output();
     return refused;
 }

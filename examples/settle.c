@@ -1,10 +1,12 @@
 /*
- * Prints the settled form of the message on standard input in hexadecimal, or the number refused with its values.
+ * Prints the settled form of the message on standard input in hexadecimal, or the number refused with its values. Ends with
+ * status 1 where it is refused, and with 2 where reading or printing fails (streams.h).
  *
  *     bin/library
  *     cc -I include -o target/settle examples/settle.c target/lib/libsua.a
  */
 #include <stdio.h>
+#include "streams.h"
 #include "sua.h"
 
 static uint8_t input[1048577], out[1048576]; /* one octet more than is accepted, and the longest form */
@@ -14,16 +16,19 @@ int main(void)
 {
     uint64_t report[4];
     size_t n = fread(input, 1, sizeof input, stdin);
+    int refused;
 
-    if (sua_settle(input, n, out, sizeof out, report, 4) != 0) {
+    check_input();
+    refused = sua_settle(input, n, out, sizeof out, report, 4) != 0;
+    if (refused) {
         printf("refused %d:", (int)report[0]);
         for (int i = 1; i <= values[report[0]]; i++)
             printf(" %llu", (unsigned long long)report[i]);
-        putchar('\n');
-        return 1;
+    } else {
+        for (size_t i = 0; i < report[1]; i++)
+            printf("%02x", out[i]);
     }
-    for (size_t i = 0; i < report[1]; i++)
-        printf("%02x", out[i]);
     putchar('\n');
-    return 0;
+    close_output();
+    return refused;
 }

@@ -12,25 +12,25 @@ mod store;
 mod tables;
 
 use reply::Reply;
+use std::process::ExitCode;
 use std::str;
+use streams::Failure;
 
-// Standard input and standard output, as the system numbers them.
-const STDIN: i32 = 0;
-
-const STDOUT: i32 = 1;
+// How much of the standard input is read.
+const INPUT: u64 = 1000000;
 
 // Reads standard input, and answers each of its lines, an empty one by an empty one, and one that is not UTF-8 as an unknown call.
 // The buffers are arrays of `main`, so that no proof looks at their elements.
 fn run(
-    text: &mut [u8; 1000000],
+    rt: &HostRuntime,
     numbers: &mut [u64; 20000],
     octets: &mut [u8; 1500000],
     codes: &mut [u32; 20000],
     out: &mut [u8; 1200000],
     line: &mut [u8; 200000],
-) {
-    let n = io::read_full(STDIN, text);
-    for characters in text[..n.min(1000000)].split_inclusive(|&octet| octet == b'\n') {
+) -> Result<(), Failure> {
+    let text = streams::read(rt, INPUT)?;
+    for characters in text.split_inclusive(|&octet| octet == b'\n') {
         let given = str::from_utf8(characters)
             .unwrap_or("?")
             .trim_end_matches('\n');
@@ -41,23 +41,24 @@ fn run(
             numbers::answer(&mut call, &mut reply);
         }
         reply.line.octet(b'\n');
-        io::write_all(STDOUT, reply.line.shown());
+        streams::write(rt, reply.line.shown())?;
     }
+    Ok(())
 }
 
-fn main() {
-    let mut text = [0u8; 1000000];
+fn main(rt: HostRuntime) -> ExitCode {
     let mut numbers = [0u64; 20000];
     let mut octets = [0u8; 1500000];
     let mut codes = [0u32; 20000];
     let mut out = [0u8; 1200000];
     let mut line = [0u8; 200000];
-    run(
-        &mut text,
+    let ended = run(
+        &rt,
         &mut numbers,
         &mut octets,
         &mut codes,
         &mut out,
         &mut line,
     );
+    streams::status(&rt, "replay", ended)
 }

@@ -9,6 +9,9 @@ mod handling;
 mod sums;
 mod titles;
 
+use std::process::ExitCode;
+use streams::Failure;
+
 // What is done in each round.
 #[derive(Clone, Copy)]
 enum Work {
@@ -31,23 +34,30 @@ impl Work {
     }
 }
 
-// Standard input and standard output, as the system numbers them.
-const STDIN: i32 = 0;
+// An order of five octets, and as many as the largest message has room for.
+const INPUT: u64 = 8197;
 
-const STDOUT: i32 = 1;
-
-fn main() {
-    let mut order = [0u8; 5];
+// The sum of the work that is ordered; 0 where the order is cut short.
+fn sum(input: &[u8]) -> u64 {
+    let [number, a, b, c, d, given @ ..] = input else {
+        return 0;
+    };
+    let rounds = u32::from_be_bytes([*a, *b, *c, *d]);
+    let n = given.len().min(8192);
     let mut octets = [0u8; 8192];
+    octets[..n].copy_from_slice(&given[..n]);
     let mut rows = [handling::EMPTY; 1001];
-    io::read_full(STDIN, &mut order);
-    let n = io::read_full(STDIN, &mut octets);
-    let [number, a, b, c, d] = order;
-    let rounds = u32::from_be_bytes([a, b, c, d]);
-    let sum = match Work::of(number) {
+    match Work::of(*number) {
         Work::Titles(work) => titles::rounds(work, rounds, n, &mut octets),
         Work::Handling(work) => handling::rounds(work, rounds, n, &mut octets, &mut rows),
-    };
-    io::print_decimal(STDOUT, sum);
-    io::write_all(STDOUT, b"\n");
+    }
+}
+
+fn run(rt: &HostRuntime) -> Result<(), Failure> {
+    let input = streams::read(rt, INPUT)?;
+    println!(rt; "{}", sum(&input)).map_err(Failure::Output)
+}
+
+fn main(rt: HostRuntime) -> ExitCode {
+    streams::status(&rt, "rounds", run(&rt))
 }

@@ -1,15 +1,20 @@
-// The small program: settles the octets on standard input, and prints one line.
+// The small program: settles the octets on standard input, and prints one line. Where it cannot read the octets to their end, or
+// print the line, it says so on standard error and ends with status 1.
 #![tactic(auto)]
 
-// Standard input and standard output, as the system numbers them.
-const STDIN: i32 = 0;
+use std::process::ExitCode;
+use streams::Failure;
 
-const STDOUT: i32 = 1;
+// One octet more than a message may have, which is enough to refuse it.
+const INPUT: u64 = 65537;
 
-fn main() {
-    let mut input = [0u8; 65537];
+fn settle(rt: &HostRuntime) -> Result<(), Failure> {
+    let input = streams::read(rt, INPUT)?;
     let mut out = [0u8; 147471];
-    let n = io::read_full(STDIN, &mut input);
-    let length = flat::line::line(&input[..n], &mut out);
-    io::write_all(STDOUT, &out[..length]);
+    let length = flat::line::line(&input, &mut out);
+    streams::write(rt, &out[..length])
+}
+
+fn main(rt: HostRuntime) -> ExitCode {
+    streams::status(&rt, "settle", settle(&rt))
 }

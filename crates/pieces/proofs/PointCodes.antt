@@ -36,13 +36,13 @@ codes-length [] = refl
 codes-length (c ∷ cs) = rw (length-append (code_octets c) (codes_octets cs), codes-length cs) (omega arith)
 
 -- Packing: too many, or the octets.
-pub pack_many : (codes : List ℕ) → most_codes < length codes → pack_codes codes ≡ refused 10 (0x0012 ∷ 4 * length codes ∷ [])
+pub pack_many : (codes : List ℕ) → 16382 < length codes → pack_codes codes ≡ refused 10 (0x0012 ∷ 4 * length codes ∷ [])
 unfolding pack_codes
-pack_many codes h = rw (lt-leb (length codes) most_codes h)
+pack_many codes h = rw (lt-leb (length codes) 16382 h)
 
-pub pack_few : (codes : List ℕ) → length codes ≤ most_codes → pack_codes codes ≡ accepted (codes_octets codes)
+pub pack_few : (codes : List ℕ) → length codes ≤ 16382 → pack_codes codes ≡ accepted (codes_octets codes)
 unfolding pack_codes
-pack_few codes h = rw (le-leb (length codes) most_codes h)
+pack_few codes h = rw (le-leb (length codes) 16382 h)
 
 -- The same of the two calls: what packing accepted is accepted in unpacking, as the low 24 bits of each code.
 pub packed_back : (codes os : List ℕ) → pack_codes codes ≡ accepted os → unpack_codes os ≡ accepted (map low24 codes)

@@ -3,7 +3,7 @@
 
 use super::{made, plain, Way};
 use crate::oracle::read_address;
-use crate::random::Random;
+use crate::random::{Group, Random};
 use std::io::BufRead;
 use sua::address::{GlobalTitle, RoutingIndicator, SuaAddress};
 
@@ -77,7 +77,7 @@ fn values(r: &mut Random) -> [Vec<u8>; 2] {
 }
 
 fn messages(count: u64, seed: u64) -> impl Iterator<Item = [Vec<u8>; 2]> {
-    (0..count).map(move |i| values(&mut Random::new((seed << 32).wrapping_add(i).wrapping_mul(0xD134_2543_DE82_EF95))))
+    (0..count).map(move |i| values(&mut Random::nth(Group::Capture, seed, i)))
 }
 
 /// A UDT in MTP3: service information octet, routing label; message type, class, three pointers; then called party, calling

@@ -4,7 +4,7 @@ use crate::calls::report;
 use crate::counters;
 use crate::messages;
 use crate::oracle::{account, deliver, encode_flat, form, Answer};
-use crate::random::Random;
+use crate::random::{Group, Random};
 use std::collections::BTreeMap;
 
 extern "C" {
@@ -158,7 +158,7 @@ pub fn compare(count: u64, seed: u64) -> bool {
     let mut seen = Seen::default();
     let (mut made, mut differences) = (0, 0);
     for i in 0..count {
-        let mut r = Random::new(seed.wrapping_add(i).wrapping_mul(0xD134_2543_DE82_EF95));
+        let mut r = Random::nth(Group::Archive, seed, i);
         let input = if r.once_in(10_000) { counters::large(&mut r) } else { messages::message(&mut r) };
         let (class, msg_type) = messages::any_pair(&mut r);
         let list = flat(&mut r, 2_000);

@@ -5,7 +5,7 @@ mod kinds;
 pub mod made;
 
 use crate::calls::{answer, Call};
-use crate::random::Random;
+use crate::random::{Group, Random};
 use crate::replay::replay;
 use crate::screen::kinds::{listed, Kind};
 use kinds::Asked;
@@ -68,7 +68,7 @@ pub fn compare(count: u64, seed: u64) -> bool {
     let mut check = Check::default();
     let mut calls = Vec::new();
     for i in 0..count {
-        let mut r = Random::new((seed << 32).wrapping_add(i).wrapping_mul(0x8EBC_6AF0_9C88_C6E3));
+        let mut r = Random::nth(Group::Contexts, seed, i);
         calls.push(made::call(&mut r));
         if calls.len() == CHUNK || i + 1 == count {
             check.answers(seed, &calls);

@@ -2,9 +2,30 @@
 
 pub struct Random(u64);
 
+/// The groups of the comparison, and what else draws by a seed, each with an odd constant of its own.
+#[derive(Clone, Copy)]
+#[repr(u64)]
+pub enum Group {
+    Archive = 0x2545_F491_4F6C_DD1D,
+    Typed = 0x5851_F42D_4C95_7F2D,
+    Tally = 0x9FB2_1C65_1E98_DF25,
+    TallyRules = 0xDA94_2042_E4DD_58B5,
+    Calls = 0xA076_1D64_78BD_642F,
+    Screen = 0xE703_7ED1_A0B4_28DB,
+    Contexts = 0x8EBC_6AF0_9C88_C6E3,
+    Sccp = 0xD6E8_FEB8_6659_FD93,
+    Capture = 0xD134_2543_DE82_EF95,
+}
+
 impl Random {
     pub fn new(seed: u64) -> Random {
         Random(seed)
+    }
+
+    /// A group's generator for its i-th message, call or table. Those of all seeds and places below 2^32 start differently,
+    /// since an odd factor keeps different numbers different.
+    pub fn nth(group: Group, seed: u64, i: u64) -> Random {
+        Random::new((seed << 32).wrapping_add(i).wrapping_mul(group as u64))
     }
 
     /// SplitMix64.

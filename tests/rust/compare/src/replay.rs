@@ -3,7 +3,7 @@
 use crate::absent;
 use crate::calls::{answer, Call};
 use crate::generate::{call, refusals, Sizes, CALLS};
-use crate::random::Random;
+use crate::random::{Group, Random};
 use crate::screen::kinds::{listed, Kind};
 use std::collections::{BTreeMap, BTreeSet};
 use std::io::Write;
@@ -79,7 +79,7 @@ pub fn compare(count: u64, seed: u64) -> bool {
     let mut unseen: BTreeSet<(&str, u64)> =
         CALLS.iter().flat_map(|(name, numbers)| numbers.iter().map(|n| (*name, *n)).chain([(*name, 0)])).collect();
     for i in 0..count {
-        let mut r = Random::new(seed.wrapping_add(i).wrapping_mul(0xA076_1D64_78BD_642F));
+        let mut r = Random::nth(Group::Calls, seed, i);
         let name = CALLS[(i % CALLS.len() as u64) as usize].0;
         let call = call(&mut r, name, Sizes { large_once_in: 60 });
         let expected = answer(&call);

@@ -8,7 +8,7 @@ mod plain;
 
 use crate::calls::report;
 use crate::oracle::{deliver, read_address, Answer, Refused};
-use crate::random::Random;
+use crate::random::{Group, Random};
 use kinds::{Kind, ANSWERS};
 use std::collections::BTreeMap;
 
@@ -193,7 +193,7 @@ pub fn compare(count: u64, seed: u64) -> bool {
     let mut check = Check::default();
     let count = count.max(LEAST);
     for i in 0..count {
-        let mut r = Random::new((seed << 32).wrapping_add(i).wrapping_mul(0xD6E8_FEB8_6659_FD93));
+        let mut r = Random::nth(Group::Sccp, seed, i);
         let value = made::value(&mut r);
         check.value(&mut r, &value);
         let party = parties::party(&mut r);

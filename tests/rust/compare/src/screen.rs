@@ -4,7 +4,7 @@ pub mod kinds;
 pub mod made;
 
 use crate::calls::{screened, Call, BETWEEN, SCREENED};
-use crate::random::Random;
+use crate::random::{Group, Random};
 use crate::replay::replay;
 use kinds::{listed, Kind};
 use std::collections::BTreeMap;
@@ -55,7 +55,7 @@ pub fn compare(count: u64, seed: u64) -> bool {
     let mut check = Check::default();
     let mut calls = Vec::new();
     for i in 0..count {
-        let mut r = Random::new((seed << 32).wrapping_add(i).wrapping_mul(0xE703_7ED1_A0B4_28DB));
+        let mut r = Random::nth(Group::Screen, seed, i);
         calls.push(made::call(&mut r));
         if calls.len() == CHUNK || i + 1 == count {
             check.answers(seed, &calls);

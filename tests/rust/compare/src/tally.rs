@@ -4,7 +4,7 @@ mod made;
 mod plain;
 mod rules;
 
-use crate::random::Random;
+use crate::random::{Group, Random};
 use plain::{kinds, placed, KINDS};
 use std::collections::BTreeMap;
 
@@ -231,12 +231,12 @@ pub fn compare(count: u64, seed: u64) -> bool {
     let mut check = Check::default();
     let days = (count / DAY as u64).max(3);
     for i in 0..days {
-        let mut r = Random::new(seed.wrapping_add(i).wrapping_mul(0x9FB2_1C65_1E98_DF25));
+        let mut r = Random::nth(Group::Tally, seed, i);
         let members = [64, 1, 2 + r.below(62)][i as usize % 3];
         let prefixes = made::prefixes(&mut r, members);
         compare_day(&mut check, &mut r, &prefixes);
     }
-    let mut r = Random::new(seed.wrapping_mul(0xD6E8_FEB8_6659_FD93));
+    let mut r = Random::nth(Group::TallyRules, seed, 0);
     rules::compare(&mut check, &mut r);
     check.listed(&format!("{days} days of {DAY}"), &KINDS);
     check.listed("rows", &ROWS);

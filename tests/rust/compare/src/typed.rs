@@ -3,7 +3,7 @@
 use crate::counters;
 use crate::messages;
 use crate::oracle::{account, encode_flat, form, is_address, read_message, Answer};
-use crate::random::Random;
+use crate::random::{Group, Random};
 use sua::address::SuaAddress;
 
 /// A refusal's number and values, as the oracle has them.
@@ -66,7 +66,7 @@ fn same_writing(input: &[u8], class: u8, msg_type: u8, list: &[(u16, Vec<u8>)]) 
 pub fn compare(count: u64, seed: u64) -> bool {
     let mut differences = 0;
     for i in 0..count {
-        let mut r = Random::new(seed.wrapping_add(i).wrapping_mul(0xE703_7ED1_A0B4_28DB));
+        let mut r = Random::nth(Group::Typed, seed, i);
         let mut input = if r.once_in(10_000) { messages::large(&mut r) } else { messages::message(&mut r) };
         if r.once_in(2) {
             input = counters::copy(&mut r, &input).unwrap_or(input);

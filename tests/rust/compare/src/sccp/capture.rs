@@ -3,7 +3,7 @@
 
 use super::{made, plain, Way};
 use crate::oracle::read_address;
-use crate::random::Random;
+use crate::random::{Group, Random};
 use std::io::BufRead;
 use sua::address::{GlobalTitle, RoutingIndicator, SuaAddress};
 
@@ -57,11 +57,26 @@ fn expected(field: &str, a: &SuaAddress) -> Option<Shown> {
     }
 }
 
-/// Whether tshark shows what stands behind a party address. In a title of numbering plan 6 it reads the codes of a country and
-/// a network, which take three octets; where the digits have fewer, it shows the title and nothing behind it.
+/// How many digits a title needs for tshark to find in them the codes that it looks for. By plan 6 these are a country's and a
+/// network's, in three octets. In an international number, nature 4, by plans 1 and 7, it is a country's, for which one octet
+/// will do, and behind 882 and 883 a network's too, up to the third octet, or the fourth where it begins with 51 behind 883. In
+/// a country's code a half octet above 9 counts as its number: 8, 7 and 12 are 882 too.
+fn least_digits(title: &GlobalTitle) -> usize {
+    let digits = &title.digits;
+    let country = digits.chars().take(3).fold(0, |code, digit| 10 * code + u32::from(plain::half_octet(digit)));
+    match (title.numbering_plan, title.nature_of_address, country) {
+        (1 | 7, 4, 883) if digits[3..].starts_with("51") => 7,
+        (6, ..) | (1 | 7, 4, 882 | 883) => 5,
+        (1 | 7, 4, _) => 1,
+        _ => 0,
+    }
+}
+
+/// Whether tshark shows what stands behind a party address. Where its title has too few digits, it shows the title and nothing
+/// behind it.
 fn shows_on(value: &[u8]) -> bool {
     let title = read_address(value).ok().and_then(|a| a.global_title);
-    !title.is_some_and(|t| t.numbering_plan == 6 && t.digits.len() < 5)
+    !title.is_some_and(|t| t.digits.len() < least_digits(&t))
 }
 
 /// The address values of one message: called and calling party, random ones that convert. Its last pointer counts the octets of
@@ -77,7 +92,7 @@ fn values(r: &mut Random) -> [Vec<u8>; 2] {
 }
 
 fn messages(count: u64, seed: u64) -> impl Iterator<Item = [Vec<u8>; 2]> {
-    (0..count).map(move |i| values(&mut Random::new((seed << 32).wrapping_add(i).wrapping_mul(0xD134_2543_DE82_EF95))))
+    (0..count).map(move |i| values(&mut Random::nth(Group::Capture, seed, i)))
 }
 
 /// A UDT in MTP3: service information octet, routing label; message type, class, three pointers; then called party, calling

@@ -7,7 +7,7 @@ use sua::address::{GlobalTitle, RoutingIndicator, SuaAddress};
 /// The character of each half octet.
 pub const DIGITS: &str = "0123456789*#abc?";
 
-fn half_octet(digit: char) -> u8 {
+pub fn half_octet(digit: char) -> u8 {
     DIGITS.find(digit).expect("the Rust reads no other") as u8
 }
 

@@ -1,19 +1,19 @@
 -- What depends on a parameter's tag, by the tags' numbers: which parameters are addresses, and which are left out (RFC 3868, 3.10.1 to
 -- 3.10.3).
 use Prim.Native.Nat.{ℕ}
-use mathlib.Core.Path.{◌≡◌, refl, sym, ap, ◌∙◌}
+use mathlib.Core.Path.{◌≡◌, refl, sym, ◌∙◌}
 use mathlib.Core.Bool.{Bool, true, false}
 use mathlib.Core.List.{List, [], ◌∷◌}
 use mathlib.Core.Logic.{◌⊎◌, ◌↔◌, ⊎_elim, inl, inr}
 use native.Mathlib.Omega.{arith}
 use lib.Dec.{eqb}
-use borrow.Author.Tests.{eqb-true, eq-eqb, ne_eqb}
-use Rattle.bcd.specs.Outcome.{accepted, mapped, pick}
+use borrow.Author.Tests.{eqb-true, eq-eqb}
+use Rattle.bcd.specs.Outcome.{accepted}
 use Rattle.bcd.specs.Digits.{Alphabet}
 use Rattle.bcd.proofs.Outcomes.{accepted_inj, mapped_inv}
 use Rattle.parameter.specs.Parameter.{Param, param}
 use Rattle.address.specs.Address.{address_in, rewrite_address}
-use Rattle.form.specs.Form.{is_address, is_hop_counter, settled_param, Part, raw, address, part_in}
+use Rattle.form.specs.Form.{is_address, is_hop_counter, settled_param, address, part_in}
 
 -- The addresses are the source address and the destination address.
 pub address_tags : (tag : ℕ) → (is_address tag ≡ true) ↔ ((tag ≡ 0x0102) ⊎ (tag ≡ 0x0103))

@@ -8,7 +8,7 @@ use lib.Dec.{eqb}
 use borrow.Author.Tests.{ne_eqb}
 use Rattle.std.specs.List.{filter}
 use Rattle.std.proofs.lemmas.List.Elements.{filter-append}
-use Rattle.bcd.specs.Outcome.{Outcome, accepted, mapped, each, pick}
+use Rattle.bcd.specs.Outcome.{Outcome, accepted, each, pick}
 use Rattle.bcd.specs.Digits.{Alphabet}
 use Rattle.bcd.proofs.Outcomes.{accepted_inj, after_inv, mapped_inv, each_inv}
 use Rattle.parameter.specs.Parameter.{Param, param}

@@ -1,8 +1,7 @@
 -- What a message adds, by numbers: only a message of class 7 and type 1 goes to a member, by its first 0x0103, and its octets are those
 -- of its first 0x010B (RFC 3868, 3.1.3, 3.10).
-use Prim.Native.Nat.{ℕ}
-use mathlib.Core.Path.{◌≡◌, refl, sym, ap, ap₂, ◌∙◌}
-use mathlib.Core.Bool.{true, ◌&&◌}
+use mathlib.Core.Path.{◌≡◌, refl, sym, ap₂, ◌∙◌}
+use mathlib.Core.Bool.{true}
 use mathlib.Core.Logic.{◌↔◌}
 use mathlib.Core.List.{List, [], ◌∷◌, ◌++◌}
 use Rattle.std.specs.Prelude.{None, Some}

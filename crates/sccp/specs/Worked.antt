@@ -1,6 +1,6 @@
 -- Worked addresses: an address value of SUA, and the party address of SCCP that it converts to and from; and some that do
 -- not convert.
-use Rattle.std.specs.Prelude.{ℕ, ◌≡◌, List, [], ◌∷◌, ◌++◌, replicate}
+use Rattle.std.specs.Prelude.{ℕ, ◌≡◌, List, [], ◌∷◌, replicate}
 use Rattle.bcd.specs.Outcome.{accepted, refused}
 use Rattle.parameter.specs.Parameter.{words}
 use Rattle.sccp.specs.Sccp.{to_sccp, from_sccp}

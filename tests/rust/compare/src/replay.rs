@@ -14,6 +14,8 @@ const MOST_TEXT: usize = 900_000;
 /// With so many calls or more, each function that shows a number of absent digits must show one above 0 of an odd declared count,
 /// and one of an even.
 const MANY: u64 = 20_000;
+/// At this rate 100,000 calls meet the rarest refusal of a function nine times on average.
+const SIZES: Sizes = Sizes { large_once_in: 20 };
 const ABSENT: &str = "titles with absent digits, by the declared count";
 
 /// The lines that the program answers to calls, one for each.
@@ -81,7 +83,7 @@ pub fn compare(count: u64, seed: u64) -> bool {
     for i in 0..count {
         let mut r = Random::nth(Group::Calls, seed, i);
         let name = CALLS[(i % CALLS.len() as u64) as usize].0;
-        let call = call(&mut r, name, Sizes { large_once_in: 60 });
+        let call = call(&mut r, name, SIZES);
         let expected = answer(&call);
         for n in refusals(name, &expected) {
             unseen.remove(&(name, n));

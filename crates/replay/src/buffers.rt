@@ -8,10 +8,9 @@ use address::{GlobalTitle, SuaAddress};
 use bcd::encode_gt_digits;
 use bcd::error::Refusal;
 use form::settle;
-use message::SuaMessage;
 use message::header::CommonHeader;
-use message::pack_affected_point_codes;
 use message::types::MessageType;
+use message::{SuaMessage, pack_affected_point_codes};
 use parameter::table::Records;
 
 // A call on octets.

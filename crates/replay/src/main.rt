@@ -29,7 +29,7 @@ fn run(
     out: &mut [u8; 1200000],
     line: &mut [u8; 200000],
 ) -> Result<(), Failure> {
-    let text = streams::read(rt, INPUT)?;
+    let text = streams::read(rt.alloc(), rt.reader(), INPUT)?;
     for characters in text.split_inclusive(|&octet| octet == b'\n') {
         let given = str::from_utf8(characters)
             .unwrap_or("?")
@@ -41,7 +41,7 @@ fn run(
             numbers::answer(&mut call, &mut reply);
         }
         reply.line.octet(b'\n');
-        streams::write(rt, reply.line.shown())?;
+        rt.write_all(reply.line.shown()).map_err(Failure::Output)?;
     }
     Ok(())
 }

@@ -6,8 +6,7 @@ use crate::line::Line;
 use crate::reply::Reply;
 use address::SuaAddress;
 use bcd::error::Refusal;
-use message::SuaMessage;
-use message::unpack_affected_point_codes;
+use message::{SuaMessage, unpack_affected_point_codes};
 use parameter::Place;
 use parameter::table::{Records, decode_parameters};
 

@@ -54,7 +54,7 @@ fn sum(input: &[u8]) -> u64 {
 }
 
 fn run(rt: &HostRuntime) -> Result<(), Failure> {
-    let input = streams::read(rt, INPUT)?;
+    let input = streams::read(rt.alloc(), rt.reader(), INPUT)?;
     println!(rt; "{}", sum(&input)).map_err(Failure::Output)
 }
 

@@ -9,10 +9,10 @@ use streams::Failure;
 const INPUT: u64 = 65537;
 
 fn settle(rt: &HostRuntime) -> Result<(), Failure> {
-    let input = streams::read(rt, INPUT)?;
+    let input = streams::read(rt.alloc(), rt.reader(), INPUT)?;
     let mut out = [0u8; 147471];
     let length = flat::line::line(&input, &mut out);
-    streams::write(rt, &out[..length])
+    rt.write_all(&out[..length]).map_err(Failure::Output)
 }
 
 fn main(rt: HostRuntime) -> ExitCode {

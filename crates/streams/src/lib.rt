@@ -6,7 +6,7 @@ ghost use Rattle.std.specs.Process.{exit_status};
 
 use std::alloc::Global;
 use std::io;
-use std::io::{Input, Read};
+use std::io::Read;
 use std::process::ExitCode;
 use thiserror::Error;
 
@@ -19,23 +19,16 @@ pub enum Failure {
     Output(io::Error),
 }
 
-// All octets of a reader, or its first ones where it has more.
-fn first<R: Read + Drop>(alloc: Global, reader: R, most: u64) -> io::Result<Vec<u8>>
-    ensures { IfOk result (λ octets. IfSome (R.remaining reader) (λ all. octets.items ≡ take most all)) }
+// All octets of a program's input, or the first ones where there are more. A read that fails is no end.
+pub fn read<R: Read + Drop>(alloc: Global, input: R, most: u64) -> Result<Vec<u8>, Failure>
+    ensures { IfOk result (λ octets. IfSome (R.remaining input) (λ all. octets.items ≡ take most all)) }
 {
     let mut octets = Vec::new(alloc);
-    reader.take(most).read_to_end(&mut octets)?;
+    input
+        .take(most)
+        .read_to_end(&mut octets)
+        .map_err(Failure::Input)?;
     Ok(octets)
-}
-
-// All octets on standard input, or the first ones where there are more.
-pub fn read<R: Input + AllocGlobal>(rt: &R, most: u64) -> Result<Vec<u8>, Failure> {
-    first(rt.alloc(), rt.reader(), most).map_err(Failure::Input)
-}
-
-// Writes to standard output. Where it is a pipe that nobody reads, that fails too.
-pub fn write<R: Print>(rt: &R, octets: &[u8]) -> Result<(), Failure> {
-    rt.write_all(octets).map_err(Failure::Output)
 }
 
 // The status that a program ends with: 0, or 1 where a stream failed, which a line on standard error tells.

@@ -7,6 +7,7 @@ pub mod Reading
 pub mod Encoding
 pub mod Reaching
 pub mod Counting
+pub mod Ends
 pub mod Filling
 pub mod Records
 pub mod Running

@@ -8,12 +8,12 @@ use mathlib.Core.Logic.{◌⊎◌, ◌↔◌, ⊎_elim, inl, inr}
 use native.Mathlib.Omega.{arith}
 use lib.Dec.{eqb}
 use borrow.Author.Tests.{eqb-true, eq-eqb}
-use Rattle.bcd.specs.Outcome.{accepted}
+use Rattle.bcd.specs.Outcome.{Outcome, accepted, mapped, pick}
 use Rattle.bcd.specs.Digits.{Alphabet}
 use Rattle.bcd.proofs.Outcomes.{accepted_inj, mapped_inv}
 use Rattle.parameter.specs.Parameter.{Param, param}
 use Rattle.address.specs.Address.{address_in, rewrite_address}
-use Rattle.form.specs.Form.{is_address, is_hop_counter, settled_param, address, part_in}
+use Rattle.form.specs.Form.{is_address, is_hop_counter, settled_param, raw, address, part_in}
 
 -- The addresses are the source address and the destination address.
 pub address_tags : (tag : ℕ) → (is_address tag ≡ true) ↔ ((tag ≡ 0x0102) ⊎ (tag ≡ 0x0103))
@@ -42,29 +42,26 @@ address_no_counter tag h = on (is_hop_counter tag) refl
 no_cons : {A : Type 0} {x : A} {xs : List A} → ◌≡◌ {A = List A} (x ∷ xs) [] → ⊥
 no_cons e = let z : ◌≡◌ {A = ℕ} 0 1 = cc in omega arith
 
+-- What gives one element of an address, and of any other parameter one or, where it is a hop counter, none.
+module _ {B C : Type 0} (tag : ℕ) (one : C → B) (o : Outcome C) (x : B) where
+  abbrev given : Outcome (List B)
+  given = pick (is_address tag) (mapped (λ c. one c ∷ []) o) (accepted (pick (is_hop_counter tag) [] (x ∷ [])))
+
+  none_given : (given ≡ accepted []) ↔ (tag ≡ 0x0101)
+  none_given = (to (is_address tag) (is_hop_counter tag) refl refl, (λ e. rw e))
+    where
+      to : (a c : Bool) → is_address tag ≡ a → is_hop_counter tag ≡ c → given ≡ accepted [] → tag ≡ 0x0101
+      to a true h k e = (counter_tag tag).0 k
+      to true false h k e = let (c, hc, z) = mapped_inv (λ c. one c ∷ []) o (rw h at e) in absurd (no_cons z)
+      to false false h k e = absurd (no_cons (accepted_inj (rw (h, k) at e)))
+
 module _ (A : Alphabet) (p : Param) where
   -- A parameter is left out of the form exactly where its tag is 0x0101 ..
   pub left_out : (settled_param A p ≡ accepted []) ↔ (p.tag ≡ 0x0101)
   unfolding settled_param
-  left_out = (to (is_address p.tag) (is_hop_counter p.tag) refl refl, from)
-    where
-      to : (a c : Bool) → is_address p.tag ≡ a → is_hop_counter p.tag ≡ c → settled_param A p ≡ accepted [] → p.tag ≡ 0x0101
-      to a true h k e = (counter_tag p.tag).0 k
-      to true false h k e = let (w, hw, z) = mapped_inv (λ w. param p.tag w ∷ []) (rewrite_address A p.tag p.value) (rw h at e) in absurd (no_cons z)
-      to false false h k e = absurd (no_cons (accepted_inj (rw (h, k) at e)))
-
-      from : p.tag ≡ 0x0101 → settled_param A p ≡ accepted []
-      from e = rw e
+  left_out = none_given p.tag (param p.tag) (rewrite_address A p.tag p.value) p
 
   -- .. and there alone it means nothing.
   pub means_nothing : (part_in A p ≡ accepted []) ↔ (p.tag ≡ 0x0101)
   unfolding part_in
-  means_nothing = (to (is_address p.tag) (is_hop_counter p.tag) refl refl, from)
-    where
-      to : (a c : Bool) → is_address p.tag ≡ a → is_hop_counter p.tag ≡ c → part_in A p ≡ accepted [] → p.tag ≡ 0x0101
-      to a true h k e = (counter_tag p.tag).0 k
-      to true false h k e = let (a, ha, z) = mapped_inv (λ a. address p.tag a ∷ []) (address_in A p.value) (rw h at e) in absurd (no_cons z)
-      to false false h k e = absurd (no_cons (accepted_inj (rw (h, k) at e)))
-
-      from : p.tag ≡ 0x0101 → part_in A p ≡ accepted []
-      from e = rw e
+  means_nothing = none_given p.tag (address p.tag) (address_in A p.value) (raw p)

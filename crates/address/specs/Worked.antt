@@ -33,29 +33,31 @@ titled_addresses =
     ∷ (with_titles [], 0)
     ∷ []
 
--- An address value with a title, a point code, an SSN and an IPv4 address, whose include bits are 4 and 1; and one with bit 2 alone.
--- Each with what it is read as.
-abbrev pub read_addresses : List (List ℕ × Address)
-read_addresses = (
-  words
-      (0x00030005
-      ∷ 0x8001000D ∷ 0x01020304 ∷ 0x01060708 ∷ 0x05000000
-      ∷ 0x80020008 ∷ 0xAABBCCDD
-      ∷ 0x80030008 ∷ 0x11223344
-      ∷ 0x80040005 ∷ 0x41000000 ∷ []),
-  record {
-    routing = 3;
-    gt = true;
-    pc = false;
-    ssn = true;
-    title = Some (record { gti = 4; tt = 6; np = 7; noa = 8; digits = 0x35 ∷ [] });
-    code = Some 0xAABBCCDD;
-    sub = Some 0x44;
-    others = param 0x8004 (0x41 ∷ []) ∷ [];
-  },
-)
-    ∷ (
-      words (0x0004FFFA ∷ []),
-      record { routing = 4; gt = false; pc = true; ssn = false; title = None; code = None; sub = None; others = [] },
-    )
-    ∷ []
+-- An address value with a title, a point code, an SSN and an IPv4 address, whose include bits are 4 and 1; and what it is read as.
+abbrev pub whole_value : List ℕ
+whole_value =
+    words
+    (0x00030005
+    ∷ 0x8001000D ∷ 0x01020304 ∷ 0x01060708 ∷ 0x05000000
+    ∷ 0x80020008 ∷ 0xAABBCCDD
+    ∷ 0x80030008 ∷ 0x11223344
+    ∷ 0x80040005 ∷ 0x41000000 ∷ [])
+
+abbrev pub whole_address : Address
+whole_address = record {
+  routing = 3;
+  gt = true;
+  pc = false;
+  ssn = true;
+  title = Some (record { gti = 4; tt = 6; np = 7; noa = 8; digits = 0x35 ∷ [] });
+  code = Some 0xAABBCCDD;
+  sub = Some 0x44;
+  others = param 0x8004 (0x41 ∷ []) ∷ [];
+}
+
+-- One with no parts, whose include bit is 2, among reserved ones.
+abbrev pub bare_value : List ℕ
+bare_value = words (0x0004FFFA ∷ [])
+
+abbrev pub bare_address : Address
+bare_address = record { routing = 4; gt = false; pc = true; ssn = false; title = None; code = None; sub = None; others = [] }

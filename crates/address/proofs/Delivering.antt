@@ -17,8 +17,7 @@ use Rattle.address.specs.Parts.{kept_title, kept_code, kept_sub}
 use Rattle.address.specs.Steps.Kept.{kept_pieces}
 use Rattle.address.specs.Again.{with_unknown}
 use Rattle.address.specs.Listing.{other_places}
-use Rattle.address.specs.Steps.Plan.{head_octets, wire_of, digits_by, Plan, others_octets}
-use Rattle.address.specs.declared.interpret.Digits.{Digits}
+use Rattle.address.specs.Steps.Plan.{head_octets, wire_of, Plan, others_octets}
 use Rattle.address.specs.declared.interpret.Digits.TheVariants as D
 use Rattle.address.specs.declared.parts.Parts.{Parts}
 use Rattle.address.proofs.Others.{count_known}
@@ -200,20 +199,18 @@ module _ {v : List ℕ} {s : Parts} {total : ℕ} (p : Plan with_unknown v s tot
       ∙ ap (λ (o : Outcome (List ℕ)). deliver o out) (sym (plan_octets (alike D.Unchecked) 0 p))
 
 -- A plan with checked digits is one without.
-pub as_read : (digits : Digits) {v : List ℕ} {s : Parts} {total : ℕ} → Plan (digits_by digits) v s total → Plan with_unknown v s total
-as_read D.Checked {v} {s} p = record {
+pub as_read : {v : List ℕ} {s : Parts} {total : ℕ} → Plan built_in v s total → Plan with_unknown v s total
+as_read {v} {s} p = record {
   read = p.read;
   params = p.params;
   written = subs-same (kept_pieces built_in v s p.read.known.places) p.params p.written;
   size = p.size;
   fits = p.fits;
 }
-as_read D.Unchecked p = p
 
 -- It is written the same; and the tag is told only where the value is too long.
 pub any_tag :
-    (digits : Digits) {v : List ℕ} {s : Parts} {total : ℕ} (tag : ℕ) (p : Plan (digits_by digits) v s total)
-    → after (read_address built_in v) (write_address with_unknown 0) ≡ after (read_address built_in v) (write_address (digits_by digits) tag)
+    {v : List ℕ} {s : Parts} {total : ℕ} (tag : ℕ) (p : Plan built_in v s total)
+    → after (read_address built_in v) (write_address with_unknown 0) ≡ after (read_address built_in v) (write_address built_in tag)
 unfolding as_read
-any_tag D.Checked tag p = plan_octets (alike D.Unchecked) 0 (as_read D.Checked p) ∙ sym (plan_octets (alike D.Checked) tag p)
-any_tag D.Unchecked tag p = plan_octets (alike D.Unchecked) 0 p ∙ sym (plan_octets (alike D.Unchecked) tag p)
+any_tag tag p = plan_octets (alike D.Unchecked) 0 (as_read p) ∙ sym (plan_octets (alike D.Checked) tag p)

@@ -19,6 +19,7 @@ pub mod Titling
 pub mod Copying
 pub mod Lending
 pub mod Delivering
+pub mod Reframing
 pub mod TitleRecords
 pub mod AddressRecords
 pub mod Tabling

@@ -8,9 +8,9 @@ ghost use Rattle.parameter.specs.Parameter.{run_octets, most_value};
 ghost use Rattle.parameter.specs.Walk.{valued};
 ghost use Rattle.address.specs.Address.{title_at, title, present, sub_param, read_address, write_address};
 ghost use Rattle.address.specs.Parts.{kept_title};
-ghost use Rattle.address.specs.Again.{with_unknown};
+ghost use Rattle.address.specs.Again.{with_unknown, parameter_again};
 ghost use Rattle.address.specs.Listing.{is_other, other_places};
-ghost use Rattle.address.specs.Steps.Plan.{digits_by, Plan, head_octets, others_octets};
+ghost use Rattle.address.specs.Steps.Plan.{Plan, head_octets, others_octets};
 
 use crate::encode::{ssn_octets, write_four};
 use crate::interpret::{Digits, Interpreted, TitleValue, interpret};
@@ -120,32 +120,30 @@ impl<'a> Interpreted<'a> {
     }
 }
 
-// Reads an address value and writes it again. Reading's refusals; 9, if the digits are checked; then 10, then 14.
-fn rewrite_by(digits: Digits, tag: u16, value: &[u8], out: &mut [u8]) -> Result<usize, Refusal>
+// Reads an address value and writes it again. Reading's refusals, then 9, then 10, then 14.
+pub fn rewrite(tag: u16, value: &[u8], out: &mut [u8]) -> Result<usize, Refusal>
     ensures { delivered (outcome_of result) out.new
-        ≡ deliver (after (read_address built_in value.now) (write_address (digits_by digits) tag)) out.old }
+        ≡ deliver (after (read_address built_in value.now) (write_address built_in tag)) out.old }
 {
     let address = interpret(value)?;
-    let total = address.measure(digits, tag)?;
+    let total = address.measure(Digits::Checked, tag)?;
     if out.len() < total {
         return Err(Refusal::OutputTooSmall(total));
     }
     address.write(total, out)
 }
 
-// Reads an address value and writes it again. Reading's refusals, then 9, then 10, then 14.
-pub fn rewrite(tag: u16, value: &[u8], out: &mut [u8]) -> Result<usize, Refusal>
-    ensures { delivered (outcome_of result) out.new
-        ≡ deliver (after (read_address built_in value.now) (write_address built_in tag)) out.old }
+// Reads an address value and writes it again, as a parameter. Its digits are not checked again: a `?` is written as it was read,
+// and not refused as 9. Reading's refusals, then 10, then 14.
+pub fn rewrite_parameter(tag: u16, value: &[u8], out: &mut [u8]) -> Result<usize, Refusal>
+    ensures { delivered (outcome_of result) out.new ≡ deliver (parameter_again tag value.now) out.old }
 {
-    rewrite_by(Digits::Checked, tag, value, out)
-}
-
-// The same for digits that are not to be checked again: a `?` is written as it was read, and not refused as 9. Reading's
-// refusals, then 10, then 14.
-pub fn rewrite_as_read(tag: u16, value: &[u8], out: &mut [u8]) -> Result<usize, Refusal>
-    ensures { delivered (outcome_of result) out.new
-        ≡ deliver (after (read_address built_in value.now) (write_address with_unknown tag)) out.old }
-{
-    rewrite_by(Digits::Unchecked, tag, value, out)
+    let address = interpret(value)?;
+    let length = address.measure(Digits::Unchecked, tag)?;
+    let total = parameter::wire_length(tag, length)?;
+    if out.len() < total {
+        return Err(Refusal::OutputTooSmall(total));
+    }
+    address.write(length, &mut out[4..])?;
+    parameter::frame(tag, length, out)
 }

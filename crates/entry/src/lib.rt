@@ -1,4 +1,4 @@
-// The entries for other languages, on slices of octets and numbers (include/sua.h).
+// The entries for other languages, on slices of octets and numbers (include/sua.h, include/m3ua.h).
 #![tactic(auto)]
 
 ghost use Rattle.std.specs.Prelude.{◌≡◌};
@@ -6,15 +6,16 @@ ghost use Rattle.bcd.specs.Outcome.{deliver};
 ghost use Rattle.bcd.specs.Digits.{built_in};
 ghost use Rattle.form.specs.Form.{settled};
 ghost use Rattle.report.specs.Report.{entered, enter};
-ghost use Rattle.flat.specs.Account.{account};
-ghost use Rattle.flat.specs.Flat.{encode_flat};
+ghost use Rattle.m3ua.specs.Form.{settled as m3ua·settled};
+ghost use Rattle.flat.specs.Account.{account, m3ua_account};
+ghost use Rattle.flat.specs.Flat.{encode_flat, encode_m3ua_flat};
 ghost use Rattle.sccp.specs.Sccp.{to_sccp, from_sccp};
 ghost use Rattle.tally.specs.Rows.{rows};
 ghost use Rattle.tally.specs.Tally.{tally};
 ghost use Rattle.entry.specs.Entries.{entered_rows, enter_rows};
 
-use flat::account::read;
-use flat::list::encode;
+use flat::account::{read, read_m3ua};
+use flat::list::{encode, encode_m3ua};
 use form::settle;
 use report::store;
 use sccp::{from_sccp, to_sccp};
@@ -77,4 +78,29 @@ pub fn sua_from_sccp(octets: &[u8], out: &mut [u8], report: &mut [u64]) -> u64
         ≡ enter (deliver (from_sccp octets.now) out.old) report.old }
 {
     store(from_sccp(octets, out), report)
+}
+
+// Writes the settled form of an M3UA message. Reading's refusals, then 6 for each Protocol Data in wire order, then 14.
+pub fn m3ua_settle(input: &[u8], out: &mut [u8], report: &mut [u64]) -> u64
+    ensures { entered result out.new report.new
+        ≡ enter (deliver (m3ua·settled input.now) out.old) report.old }
+{
+    store(m3ua::settle(input, out), report)
+}
+
+// Writes a flat account of an M3UA message with its Protocol Data, of at most 2,621,426 octets. Reading's refusals, then 6 for
+// each Protocol Data in wire order, then 14.
+pub fn m3ua_read(input: &[u8], out: &mut [u8], report: &mut [u64]) -> u64
+    ensures { entered result out.new report.new
+        ≡ enter (deliver (m3ua_account input.now) out.old) report.old }
+{
+    store(read_m3ua(input, out), report)
+}
+
+// Writes the M3UA message of a class, a type and a flat list of parameters. 4, 15, 10 in order, 12, 14, as `sua_encode`.
+pub fn m3ua_encode(class: u8, msg_type: u8, list: &[u8], out: &mut [u8], report: &mut [u64]) -> u64
+    ensures { entered result out.new report.new
+        ≡ enter (deliver (encode_m3ua_flat class msg_type list.now) out.old) report.old }
+{
+    store(encode_m3ua(class, msg_type, list, out), report)
 }

@@ -1,19 +1,18 @@
 -- The account of an address and of a parameter.
-use Prim.Native.Nat.{ℕ, ◌+◌, ◌*◌, ◌/◌, ◌%◌, ◌^◌, ◌≤◌}
+use Prim.Native.Nat.{ℕ, ◌+◌, ◌*◌, ◌/◌, ◌%◌, ◌≤◌}
 use mathlib.Core.Path.{◌≡◌, refl, sym, ap, ◌∙◌, subst}
 use mathlib.Core.Bool.{Bool, true, false}
 use mathlib.Core.List.{List, [], ◌∷◌, ◌++◌, map, append_assoc, append-nil}
 use native.Mathlib.Omega.{arith}
 use lib.ListN.{length, get_or, drop, length-append, length-map, length-take, length-drop}
 use Rattle.std.specs.Prelude.{Option, None, Some, option_map}
-use Rattle.bcd.specs.Outcome.{Outcome, accepted, refused, pick, mapped, accepted_or, each, bounded, Octets, most}
+use Rattle.bcd.specs.Outcome.{Outcome, accepted, refused, pick, mapped, accepted_or, Octets, most}
 use Rattle.bcd.specs.Digits.{built_in, digits_in}
-use Rattle.bcd.proofs.Outcomes.{accepted_inj, after_inv, mapped_inv, each_inv, bounded-within, octets-of, octets_at}
+use Rattle.bcd.proofs.Outcomes.{accepted_inj, after_inv, mapped_inv, bounded-within, octets-of, octets_at}
 use Rattle.bcd.proofs.Reading.{digits-length}
 use Rattle.parameter.specs.declared.Place.{Place}
 use Rattle.parameter.specs.Parameter.{two, four, two_at}
 use Rattle.parameter.specs.Walk.{valued, places}
-use Rattle.parameter.proofs.Walking.{places_few}
 use Rattle.address.specs.Address.{Title, title_at, address_in, read_address, address_with}
 use Rattle.address.specs.Parts.{kept_title, kept_code, kept_sub}
 use Rattle.address.specs.Listing.{other_places}
@@ -31,7 +30,7 @@ use Rattle.form.specs.Form.{is_address}
 use Rattle.message.specs.Accessors.{moved}
 use Rattle.flat.specs.Account.{place_octets, places_octets, marked, title_fields, address_fields, address_account, param_account}
 use Rattle.flat.specs.declared.writer.Writer.{Writer}
-use Rattle.flat.specs.Steps.Emitting.{Writes, Tried, listed, others_fields, parts_fields, accounts}
+use Rattle.flat.specs.Steps.Emitting.{Writes, Tried, listed, others_fields, parts_fields}
 use Rattle.flat.proofs.Emission.{writes_more}
 use Rattle.flat.proofs.Describing.{value_octets}
 use Rattle.flat.proofs.OtherPlaces.{listed-length}
@@ -187,10 +186,10 @@ address_small base v os o h e =
     let (s, r) = accepted_read o (bounded-within v (address_in built_in v) h ∙ f) in
     omega (arith, parts_small base r, ap length (accepted_inj (sym e ∙ account_read base r)))
 
-module _ (xs : List ℕ) (octets : Octets xs) (within : length xs ≤ most) where
-  param_small : (p : Place) (os : List ℕ) → param_account built_in xs p ≡ accepted os → length os ≤ 13 * most
+module _ (xs : List ℕ) (octets : Octets xs) where
+  pub param_small : length xs ≤ most → (p : Place) (os : List ℕ) → param_account built_in xs p ≡ accepted os → length os ≤ 13 * most
   unfolding param_account
-  param_small p os e =
+  param_small within p os e =
       let (us, f, g) = mapped_inv (λ os. place_octets p ++ os) (pick (is_address p.tag) (address_account built_in p.start (valued xs p).value) (accepted [])) e in
       let value : length (valued xs p).value ≤ most = rw (length-take p.length (drop p.start xs), length-drop p.start xs) (omega (arith, within)) in
       omega (arith, go (is_address p.tag) us value f, ap length g)
@@ -198,14 +197,3 @@ module _ (xs : List ℕ) (octets : Octets xs) (within : length xs ≤ most) wher
       go : (t : Bool) (us : List ℕ) → length (valued xs p).value ≤ most → pick t (address_account built_in p.start (valued xs p).value) (accepted []) ≡ accepted us → length us ≤ 12 * most
       go true us h f = address_small p.start (valued xs p).value us (value_octets xs p octets) h f
       go false us h f = omega (arith, ap length (accepted_inj f))
-
-  each_small : (ps : List Place) (os : List ℕ) → each (param_account built_in xs) ps ≡ accepted os → length os ≤ 13 * most * length ps
-  each_small [] os e = omega (arith, ap length (accepted_inj e))
-  each_small (p ∷ ps) os e =
-      let (us, vs, f, g, h) = each_inv (param_account built_in xs) p ps os e in
-      omega (arith, param_small p us f, each_small ps vs g, length-append us vs, ap length h)
-
-  pub accounts_small : (os : List ℕ) → accounts xs ≡ accepted os → length os ≤ 2 ^ 44
-  accounts_small os e =
-      let (ps, w, f) = after_inv (bounded xs (places xs 8)) _ e in
-      omega (arith, each_small ps os f, places_few xs 8 ps (sym (bounded-within xs (places xs 8) within) ∙ w), within)

@@ -1,5 +1,5 @@
 -- The fields of an address in the account, part by part.
-use Prim.Native.Nat.{ℕ, ◌+◌, ◌*◌, ◌/◌, ◌%◌, ◌^◌, ◌<◌, min}
+use Prim.Native.Nat.{ℕ, ◌+◌, ◌*◌, ◌^◌, ◌<◌, min}
 use mathlib.Core.Path.{◌≡◌, sym, ap, ◌∙◌, subst}
 use mathlib.Core.List.{List, [], ◌∷◌, ◌++◌, map, map-append}
 use native.Mathlib.Omega.{arith}
@@ -8,10 +8,9 @@ use lib.ListN.{length, get_or, take, drop}
 use lib.Seq.{take-suc}
 use Rattle.bcd.specs.Outcome.{Octets}
 use Rattle.bcd.specs.Digits.{halves, built_in, digits_in}
-use Rattle.bcd.proofs.Outcomes.{octets_at, all_take, all_drop}
+use Rattle.bcd.proofs.Outcomes.{all_take, all_drop}
 use Rattle.bcd.proofs.Halves.{halves-length}
 use Rattle.bcd.proofs.Reading.{digits-length, digits-most}
-use Rattle.parameter.specs.Parameter.{four, four_in, two_at}
 use Rattle.parameter.specs.declared.Place.{Place}
 use Rattle.parameter.specs.Walk.{valued}
 use Rattle.address.specs.Address.{title_at}
@@ -57,19 +56,3 @@ module _ (v : List ℕ) (n : ℕ) (count : n ≡ length (title_at built_in v).di
       subst (λ (os : List ℕ). Writes a os b)
       (ap (λ (l : List ℕ). 1 ∷ get_or v 3 0 ∷ get_or v 5 0 ∷ get_or v 6 0 ∷ get_or v 7 0 ∷ n ∷ l) digits
       ∙ ap (λ (k : ℕ). 1 ∷ get_or v 3 0 ∷ get_or v 5 0 ∷ get_or v 6 0 ∷ get_or v 7 0 ∷ k ∷ digits_in built_in (drop 8 v) (get_or v 4 0)) count) x
-
--- the octets of a point code are the value's first four
-pub four_again : (w : List ℕ) → Octets w → get_or w 0 0 ∷ get_or w 1 0 ∷ get_or w 2 0 ∷ get_or w 3 0 ∷ [] ≡ four (four_in w)
-unfolding two_at
-four_again w o =
-    let h1 = octets_at w 1 o in
-    let h2 = octets_at w 2 o in
-    let h3 = octets_at w 3 o in
-    let a : get_or w 0 0 ≡ four_in w / 65536 / 256 = omega arith in
-    let b : get_or w 1 0 ≡ four_in w / 65536 % 256 = omega arith in
-    let c : get_or w 2 0 ≡ four_in w % 65536 / 256 = omega arith in
-    let d : get_or w 3 0 ≡ four_in w % 65536 % 256 = omega arith in
-    ap (λ (x : ℕ). x ∷ get_or w 1 0 ∷ get_or w 2 0 ∷ get_or w 3 0 ∷ []) a
-    ∙ ap (λ (x : ℕ). four_in w / 65536 / 256 ∷ x ∷ get_or w 2 0 ∷ get_or w 3 0 ∷ []) b
-    ∙ ap (λ (x : ℕ). four_in w / 65536 / 256 ∷ four_in w / 65536 % 256 ∷ x ∷ get_or w 3 0 ∷ []) c
-    ∙ ap (λ (x : ℕ). four_in w / 65536 / 256 ∷ four_in w / 65536 % 256 ∷ four_in w % 65536 / 256 ∷ x ∷ []) d

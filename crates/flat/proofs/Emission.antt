@@ -6,10 +6,10 @@ use native.Mathlib.Omega.{arith}
 use lib.ListN.{length, take, drop, length-append, take-append-drop}
 use lib.Seq.{drop-append-add, drop-drop, length-take-le}
 use Rattle.std.specs.Int.{to_be_bytes}
-use mir.Syntax.{w16, w32}
+use mir.Syntax.{w16}
 use Rattle.bcd.specs.Outcome.{fit64}
 use Rattle.bcd.proofs.Writing.{Begun, begin, in_front}
-use Rattle.parameter.specs.Parameter.{two, four}
+use Rattle.parameter.specs.Parameter.{two}
 use Rattle.parameter.specs.Table.{over}
 use Rattle.flat.specs.declared.writer.Writer.{Writer}
 use Rattle.flat.specs.Steps.Emitting.{Writes}
@@ -73,13 +73,6 @@ emit_begun {out} {p} {os} {a} {b} x g e h =
     let stored : b.out.now ≡ over (p ++ os) a.out.now = rw first at (x.held (omega (arith, h, n))) in
     begin out (p ++ os) b.out.now (omega (arith, h, e, length-append p os)) (joined out a.out.now b.out.now p os g.holds stored)
 
--- the octets of a number of 32 bits and of 16, the high one first
-pub four_bytes : (n : ℕ) → n < 2 ^ 32 → to_be_bytes w32 n ≡ four n
-four_bytes n h =
-    let a : n / 16777216 % 256 ≡ n / 65536 / 256 = omega (arith, h) in
-    let c : n / 256 % 256 ≡ n % 65536 / 256 = omega arith in
-    let d : n % 256 ≡ n % 65536 % 256 = omega arith in
-    rw (a, c, d) refl
-
+-- the octets of a number of 16 bits, the high one first
 pub two_bytes : (n : ℕ) → n < 2 ^ 16 → to_be_bytes w16 n ≡ two n
 two_bytes n h = let a : n / 256 % 256 ≡ n / 256 = omega (arith, h) in rw a refl

@@ -6,6 +6,7 @@ pub mod Emission
 pub mod Describing
 pub mod OtherPlaces
 pub mod Accounting
+pub mod DataAccount
 pub mod Going
 pub mod AccountDone
 pub mod Lines

@@ -17,8 +17,9 @@ use Rattle.parameter.specs.Table.{over}
 use Rattle.report.proofs.Reports.{number_small}
 use Rattle.parameter.specs.Parameter.{param_octets, run_octets, encode_param, two_at}
 use Rattle.parameter.specs.Walk.{headed, step_at, steps, places, parameters}
-use Rattle.message.specs.Types.{from_class_type}
-use Rattle.message.specs.Message.{read_header, read_message, message_octets, write_message}
+use Rattle.message.specs.Kinds.{kind_of}
+use Rattle.message.specs.Framed.{named_by, read_of, octets_of, write_of}
+use Rattle.form.specs.Family.{settled_by}
 use Rattle.form.specs.Form.{settled_param, settled}
 use Rattle.form.proofs.Demand3.{form_room}
 use Rattle.flat.specs.Line.{decimal_in, decimal, words_from, form_text, refused_line, most_taken, most_printed, settled_input, line_of, program_line, Printed}
@@ -127,7 +128,7 @@ asp = 0x01 ∷ 0x00 ∷ 0x03 ∷ 0x01 ∷ 0x00 ∷ 0x00 ∷ 0x00 ∷ 0x08 ∷ []
 pub worked_refusal :
     program_line (asp ++ 0x00 ∷ 0x04 ∷ 0x00 ∷ 0x03 ∷ [])
     ≡ 0x28 ∷ 0x72 ∷ 0x65 ∷ 0x66 ∷ 0x75 ∷ 0x73 ∷ 0x65 ∷ 0x64 ∷ 0x20 ∷ 0x35 ∷ 0x29 ∷ 0x0A ∷ []
-unfolding program_line settled_input refused_line decimal decimal_in settled settled_param read_message read_header from_class_type parameters places steps step_at headed two_at
+unfolding program_line settled_input refused_line decimal decimal_in settled_by settled_param read_of named_by kind_of parameters places steps step_at headed two_at
 worked_refusal = refl
 
 pub worked_form :
@@ -135,5 +136,5 @@ pub worked_form :
     ≡ 0x28 ∷ 0x66 ∷ 0x6F ∷ 0x72 ∷ 0x6D ∷ 0x20 ∷ 0x31 ∷ 0x36 ∷ 0x20 ∷ 0x28 ∷ 0x30 ∷ 0x31 ∷ 0x30 ∷ 0x30 ∷ 0x30 ∷ 0x33 ∷
     0x30 ∷ 0x31 ∷ 0x20 ∷ 0x30 ∷ 0x30 ∷ 0x30 ∷ 0x30 ∷ 0x30 ∷ 0x30 ∷ 0x31 ∷ 0x30 ∷ 0x20 ∷ 0x30 ∷ 0x30 ∷ 0x30 ∷ 0x34 ∷
     0x30 ∷ 0x30 ∷ 0x30 ∷ 0x35 ∷ 0x20 ∷ 0x34 ∷ 0x31 ∷ 0x30 ∷ 0x30 ∷ 0x30 ∷ 0x30 ∷ 0x30 ∷ 0x30 ∷ 0x29 ∷ 0x29 ∷ 0x0A ∷ []
-unfolding program_line settled_input form_text decimal decimal_in words_from settled settled_param read_message read_header message_octets write_message from_class_type parameters places steps step_at headed two_at run_octets param_octets encode_param
+unfolding program_line settled_input form_text decimal decimal_in words_from settled_by settled_param read_of named_by octets_of write_of kind_of parameters places steps step_at headed two_at run_octets param_octets encode_param
 worked_form = refl

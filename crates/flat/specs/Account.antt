@@ -1,5 +1,6 @@
--- A flat account of a message with its addresses, fit to be compared field by field with another decoder's.
-use Rattle.std.specs.Prelude.{ℕ, List, [], ◌∷◌, ◌++◌, map, length}
+-- A flat account of a message, with its addresses or its Protocol Data, fit to be compared field by field with another
+-- decoder's.
+use Rattle.std.specs.Prelude.{ℕ, ◌+◌, List, [], ◌∷◌, ◌++◌, map, length}
 use Rattle.std.specs.Prelude.{Option, None, Some}
 use Rattle.bcd.specs.Outcome.{Outcome, accepted, pick, after, mapped, each}
 use Rattle.bcd.specs.Digits.{Alphabet}
@@ -8,10 +9,14 @@ use Rattle.parameter.specs.Parameter.{two, four}
 use Rattle.parameter.specs.Walk.{places, valued}
 use Rattle.address.specs.Address.{Title, Address, indicator, address_in}
 use Rattle.address.specs.Listing.{other_places}
-use Rattle.message.specs.Types.{class_of, type_of}
-use Rattle.message.specs.Message.{read_header}
+use Rattle.message.specs.Kinds.{Kinds}
+use Rattle.message.specs.Framed.{named_by}
+use Rattle.message.specs.Types.{sua_kinds}
 use Rattle.message.specs.Accessors.{moved}
 use Rattle.form.specs.Form.{is_address}
+use Rattle.m3ua.specs.Types.{m3ua_kinds}
+use Rattle.m3ua.specs.ProtocolData.{Data, data_in}
+use Rattle.m3ua.specs.Form.{is_protocol_data}
 
 -- A tag (2 octets), and where the value starts and how long it is (4 octets each).
 abbrev pub place_octets : Place → List ℕ
@@ -50,10 +55,34 @@ unfoldable pub param_account : Alphabet → List ℕ → Place → Outcome (List
 param_account A xs p =
     mapped (λ os. place_octets p ++ os) (pick (is_address p.tag) (address_account A p.start (valued xs p).value) (accepted []))
 
--- A message: class and type, the number of parameters (4 octets), and each parameter. Reading's refusals, then each
--- address's in wire order.
-unfoldable pub account : Alphabet → List ℕ → Outcome (List ℕ)
-account A xs =
-    after (read_header xs) (λ h.
+-- A message: class and type, the number of parameters (4 octets), and the account of each. Reading's refusals, then each
+-- parameter's in wire order.
+unfoldable pub account_of : {K : Type 0} → Kinds K → (param : List ℕ → Place → Outcome (List ℕ)) → List ℕ → Outcome (List ℕ)
+account_of T param xs =
+    after (named_by T xs) (λ h.
     after (places xs 8) (λ ps.
-    mapped (λ os. class_of h.message_type ∷ (type_of h.message_type ∷ (four (length ps) ++ os))) (each (param_account A xs) ps)))
+    mapped (λ os. (T.pair_of h.0).0 ∷ ((T.pair_of h.0).1 ∷ (four (length ps) ++ os))) (each (param xs) ps)))
+
+-- Of SUA: with its addresses.
+abbrev pub account : Alphabet → List ℕ → Outcome (List ℕ)
+account A = account_of sua_kinds (param_account A)
+
+-- Protocol Data whose value starts at a position of the message: the point codes (4 octets each), service indicator, network
+-- indicator, message priority and signalling link selection (1 each), and where the user's data starts and how long it is (4
+-- each).
+unfoldable pub data_fields : (base : ℕ) → Data → List ℕ
+data_fields base d =
+    four d.originating
+    ++ (four d.destination
+    ++ (d.service_indicator ∷ (d.network_indicator ∷ (d.priority ∷ (d.selection
+    ∷ (four (base + 12)
+    ++ four (length d.payload)))))))
+
+-- A parameter: its place, and the Protocol Data that its value is read as.
+unfoldable pub data_account : List ℕ → Place → Outcome (List ℕ)
+data_account xs p =
+    mapped (λ os. place_octets p ++ os) (pick (is_protocol_data p.tag) (mapped (data_fields p.start) (data_in (valued xs p).value)) (accepted []))
+
+-- Of M3UA: with its Protocol Data.
+abbrev pub m3ua_account : List ℕ → Outcome (List ℕ)
+m3ua_account = account_of m3ua_kinds data_account

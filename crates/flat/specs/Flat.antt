@@ -4,8 +4,10 @@ use Rattle.bcd.specs.Outcome.{Outcome, accepted, pick, after, demand, mapped}
 use Rattle.parameter.specs.declared.Place.{Place}
 use Rattle.parameter.specs.Parameter.{Param, two_at}
 use Rattle.parameter.specs.Walk.{Walked, ended, found, onward, valued}
-use Rattle.message.specs.Types.{from_class_type}
-use Rattle.message.specs.Message.{message, write_message}
+use Rattle.message.specs.Kinds.{Kinds, kind_of}
+use Rattle.message.specs.Framed.{message_of, write_of}
+use Rattle.message.specs.Types.{sua_kinds}
+use Rattle.m3ua.specs.Types.{m3ua_kinds}
 
 -- The 32-bit number at a position, the high octet first.
 abbrev pub four_at : List ℕ → ℕ → ℕ
@@ -31,5 +33,12 @@ unfoldable pub flat_list : List ℕ → Outcome (List Param)
 flat_list xs = mapped (map (valued xs)) (flat_steps (length xs) xs 0)
 
 -- The message of a class, a type and a flat list: 4, 15, 10 in order, 12.
-unfoldable pub encode_flat : (class type : ℕ) → List ℕ → Outcome (List ℕ)
-encode_flat class type list = after (from_class_type class type) (λ t. after (flat_list list) (λ ps. write_message (message t ps)))
+unfoldable pub encode_flat_of : {K : Type 0} → Kinds K → (class type : ℕ) → List ℕ → Outcome (List ℕ)
+encode_flat_of T class type list = after (kind_of T class type) (λ t. after (flat_list list) (λ ps. write_of T (message_of t ps)))
+
+-- Of SUA, and of M3UA.
+abbrev pub encode_flat : (class type : ℕ) → List ℕ → Outcome (List ℕ)
+encode_flat = encode_flat_of sua_kinds
+
+abbrev pub encode_m3ua_flat : (class type : ℕ) → List ℕ → Outcome (List ℕ)
+encode_m3ua_flat = encode_flat_of m3ua_kinds

@@ -1,4 +1,4 @@
--- A worked account and a worked flat list, octet by octet.
+-- Worked accounts and worked flat lists, octet by octet.
 use Rattle.std.specs.Prelude.{ℕ, List, [], ◌∷◌}
 use Rattle.parameter.specs.Parameter.{words}
 
@@ -33,3 +33,29 @@ worked_list =
 
 abbrev pub list_message : List ℕ
 list_message = words (0x01000701 ∷ 0x00000018 ∷ 0x01010008 ∷ 0x0000000F ∷ 0x010B0006 ∷ 0x48690000 ∷ [])
+
+-- A DATA of M3UA: routing context 7, and `Hi` from point code 1 to 2, with service indicator 3, network indicator 2, message
+-- priority 1 and signalling link selection 5.
+abbrev pub data_message : List ℕ
+data_message = words (0x01000101 ∷ 0x00000024 ∷ 0x00060008 ∷ 0x00000007 ∷ 0x02100012 ∷ 0x00000001 ∷ 0x00000002 ∷ 0x03020105 ∷ 0x48690000 ∷ [])
+
+-- Its account: class, type and two parameters ..
+abbrev pub worked_data_account : List ℕ
+worked_data_account =
+    1 ∷ 1 ∷ 0 ∷ 0 ∷ 0 ∷ 2
+    -- .. the routing context, at 12 of four octets
+    ∷ 0x00 ∷ 0x06 ∷ 0 ∷ 0 ∷ 0 ∷ 12 ∷ 0 ∷ 0 ∷ 0 ∷ 4
+    -- .. the Protocol Data, at 20 of 14 octets
+    ∷ 0x02 ∷ 0x10 ∷ 0 ∷ 0 ∷ 0 ∷ 20 ∷ 0 ∷ 0 ∷ 0 ∷ 14
+    -- the point codes, and how it is handled
+    ∷ 0 ∷ 0 ∷ 0 ∷ 1 ∷ 0 ∷ 0 ∷ 0 ∷ 2 ∷ 3 ∷ 2 ∷ 1 ∷ 5
+    -- the user's data, at 32 of two octets
+    ∷ 0 ∷ 0 ∷ 0 ∷ 32 ∷ 0 ∷ 0 ∷ 0 ∷ 2
+    ∷ []
+
+-- The list that it is written from.
+abbrev pub worked_data_list : List ℕ
+worked_data_list =
+    0x00 ∷ 0x06 ∷ 0 ∷ 0 ∷ 0 ∷ 4 ∷ 0 ∷ 0 ∷ 0 ∷ 7
+    ∷ 0x02 ∷ 0x10 ∷ 0 ∷ 0 ∷ 0 ∷ 14 ∷ 0 ∷ 0 ∷ 0 ∷ 1 ∷ 0 ∷ 0 ∷ 0 ∷ 2 ∷ 3 ∷ 2 ∷ 1 ∷ 5 ∷ 0x48 ∷ 0x69
+    ∷ []

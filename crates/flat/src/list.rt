@@ -5,13 +5,12 @@ ghost use Rattle.std.specs.Iterator.{at_most};
 ghost use Rattle.bcd.specs.Outcome.{after, mapped, each, fit64, delivered, deliver};
 ghost use Rattle.bcd.specs.Answers.{outcome_of};
 ghost use Rattle.parameter.specs.Parameter.{encode_param, wire_length};
-ghost use Rattle.flat.specs.Flat.{flat_step, flat_list, encode_flat};
+ghost use Rattle.flat.specs.Flat.{flat_step, flat_list, encode_flat_of, encode_flat, encode_m3ua_flat};
 ghost use Rattle.parameter.specs.Items.{Left};
 ghost use Rattle.flat.specs.Steps.Entries.{entry_of, Gives, ListFits};
 
 use bcd::error::Refusal;
-use message::header::{CommonHeader, put_header};
-use message::types::MessageType;
+use message::kinds::{HEADER_SIZE, MessageKind, put_header};
 use parameter::{Place, wire_length};
 
 // The record at a position of a flat list; none at the end of the list. 15.
@@ -115,13 +114,34 @@ fn write_list(list: &[u8], out: &mut [u8]) -> Result<usize, Refusal>
     Ok(at)
 }
 
-// Writes the message of a class, a type and a flat list. 4, 15, 10 in order, 12 (the message's), 14.
+// Writes the message of a class, a type and a flat list, over message types. 4, 15, 10 in order, 12 (the message's), 14.
+fn encode_in<K: MessageKind>(
+    class: u8,
+    msg_type: u8,
+    list: &[u8],
+    out: &mut [u8],
+) -> Result<usize, Refusal>
+    ensures { delivered (outcome_of result) out.new
+        ≡ deliver (encode_flat_of K.kinds class msg_type list.now) out.old }
+{
+    let kind = K::of_pair(class, msg_type)?;
+    let total = put_header(kind, list_length(list)?, out)?;
+    write_list(list, &mut out[HEADER_SIZE..])?;
+    Ok(total)
+}
+
+// Writes the SUA message of a class, a type and a flat list. 4, 15, 10 in order, 12 (the message's), 14.
 pub fn encode(class: u8, msg_type: u8, list: &[u8], out: &mut [u8]) -> Result<usize, Refusal>
     ensures { delivered (outcome_of result) out.new
         ≡ deliver (encode_flat class msg_type list.now) out.old }
 {
-    let message_type = MessageType::from_class_type(class, msg_type)?;
-    let total = put_header(message_type, list_length(list)?, out)?;
-    write_list(list, &mut out[CommonHeader::SIZE..])?;
-    Ok(total)
+    encode_in::<message::types::MessageType>(class, msg_type, list, out)
+}
+
+// Writes the M3UA message of a class, a type and a flat list. 4, 15, 10 in order, 12 (the message's), 14.
+pub fn encode_m3ua(class: u8, msg_type: u8, list: &[u8], out: &mut [u8]) -> Result<usize, Refusal>
+    ensures { delivered (outcome_of result) out.new
+        ≡ deliver (encode_m3ua_flat class msg_type list.now) out.old }
+{
+    encode_in::<m3ua::types::MessageType>(class, msg_type, list, out)
 }

@@ -1,14 +1,16 @@
--- Which messages of a family have a form, and how the others are refused. No law of the family is needed.
+-- Which messages of a lawful family have a form, and how the others are refused.
 use Prim.Native.Nat.{ℕ}
 use mathlib.Core.Path.{◌≡◌, refl, sym, ap, ◌∙◌}
 use mathlib.Core.Logic.{◌⊎◌, inl, inr, ⊎_elim, ◌↔◌}
 use mathlib.Core.List.{List, [], ◌∷◌, ◌++◌}
-use Rattle.bcd.specs.Outcome.{Outcome, accepted, refused, after, mapped, each, All}
+use Rattle.bcd.specs.Outcome.{Outcome, accepted, refused, after, mapped, each, All, Octets}
 use Rattle.bcd.proofs.Outcomes.{accepted_inj, never, after_inv, mapped_inv, each-cons, each_inv, each_refused}
 use Rattle.parameter.specs.Parameter.{Param}
-use Rattle.message.proofs.Framing.{Framed, read_of, octets_of}
+use Rattle.message.specs.Kinds.{Kinds}
+use Rattle.message.specs.Framed.{Framed, read_of, octets_of}
 use Rattle.form.specs.HasForm.{FirstRefused}
-use Rattle.form.proofs.Family.{Family, norm, settled_of}
+use Rattle.form.specs.Family.{settled_by, Family, rewritten, LawfulFamily}
+use Rattle.form.proofs.Forms.{plain_by, settled-same, plain-same, settled_plain}
 
 -- A refusal that is passed on.
 pub passed_on :
@@ -119,47 +121,26 @@ module _ {X A B C : Type 0} (o : Outcome X) (elements : X → List A) (f : A →
         (λ w. from (⊎_elim inl (λ (m, hm, r). inr (m, hm, (inner m).1 r)) w)),
       )
 
-module _ {K M : Type 0} (F : Family K M) where
-  -- A parameter that is read, and each of whose parts is written.
-  abbrev pub Rewritable : Param → Type 0
-  Rewritable p = (ms : List M) × (F.mean p ≡ accepted ms) × All (Accepts F.write) ms
+-- What is settled of a parameter, f, is a lawful family's.
+module _ {K M : Type 0} (T : Kinds K) (F : Family M) (L : LawfulFamily F) (f : Param → Outcome (List Param)) (same : (p : Param) → f p ≡ rewritten F p)
+    (xs : List ℕ) (o : Octets xs) where
+  plain : settled_by T f xs ≡ plain_by T f xs
+  plain = settled-same T f (rewritten F) same xs ∙ settled_plain T F L xs o ∙ sym (plain-same T f (rewritten F) same xs)
 
-  rewritable : (p : Param) → Accepts (norm F) p ↔ Rewritable p
-  rewritable p = (
-    (λ (qs, e). let (ms, hm, hw) = after_inv (F.mean p) _ e in (ms, hm, (each_accepts F.write ms).0 (qs, hw))),
-    (λ (ms, hm, hw). let (qs, hq) = (each_accepts F.write ms).1 hw in (qs, ap (λ o. after o (each F.write)) hm ∙ hq)),
-  )
+  -- Which messages have a form: those that are read, with each of their parameters settled.
+  pub has_form : ((g : List ℕ) × (settled_by T f xs ≡ accepted g)) ↔ ((m : Framed K) × (read_of T xs ≡ accepted m) × All (Accepts f) m.params)
+  unfolding plain_by
+  has_form =
+      let (to, from) = through_accepts (read_of T xs) (λ m. m.params) f (λ m. octets_of T m.type) in
+      ((λ (g, e). to (g, sym plain ∙ e)), (λ w. let (g, e) = from w in (g, plain ∙ e)))
 
-  module _ (xs : List ℕ) where
-    -- Which messages have a form: those that are read, with all their parameters, and each of whose parts is written.
-    pub has_form :
-        ((f : List ℕ) × (settled_of F xs ≡ accepted f))
-        ↔ ((m : Framed K) × (read_of F.kinds xs ≡ accepted m) × All Rewritable m.params)
-    unfolding settled_of
-    has_form =
-        let (to, from) = through_accepts (read_of F.kinds xs) (λ m. m.params) (norm F) (λ m. octets_of F.kinds m.kind) in
-        let each : (m : Framed K) → All (Accepts (norm F)) m.params ↔ All Rewritable m.params =
-        λ m. all_iff (Accepts (norm F)) Rewritable rewritable m.params in (
-          (λ w. let (m, hm, h) = to w in (m, hm, (each m).0 h)),
-          (λ (m, hm, h). from (m, hm, (each m).1 h)),
-        )
-
-    -- Settling refuses as reading does, or else with the first refusal of a parameter's reading and writing, in wire order.
-    pub refusals :
-        (n : ℕ) (vs : List ℕ)
-        → (settled_of F xs ≡ refused n vs)
-        ↔ ((read_of F.kinds xs ≡ refused n vs)
-        ⊎ ((m : Framed K) × (read_of F.kinds xs ≡ accepted m) × FirstRefused (norm F) m.params n vs))
-    unfolding settled_of
-    refusals = through_refuses (read_of F.kinds xs) (λ m. m.params) (norm F) (λ m. octets_of F.kinds m.kind)
-
-  -- A parameter is refused by its reading, or else by the first of its parts that is not written.
-  pub parameter_refusals :
-      (p : Param) (n : ℕ) (vs : List ℕ)
-      → (norm F p ≡ refused n vs)
-      ↔ ((F.mean p ≡ refused n vs) ⊎ ((ms : List M) × (F.mean p ≡ accepted ms) × FirstRefused F.write ms n vs))
-  parameter_refusals p n vs =
-      let (to, from) = after_refuses (F.mean p) (each F.write) n vs in (
-        (λ e. ⊎_elim inl (λ (ms, hm, h). inr (ms, hm, (each_refuses F.write ms n vs).0 h)) (to e)),
-        (λ w. from (⊎_elim inl (λ (ms, hm, r). inr (ms, hm, (each_refuses F.write ms n vs).1 r)) w)),
-      )
+  -- Settling refuses as reading does, or else as the first parameter in wire order that is not settled.
+  pub refusals :
+      (n : ℕ) (vs : List ℕ)
+      → (settled_by T f xs ≡ refused n vs)
+      ↔ ((read_of T xs ≡ refused n vs)
+      ⊎ ((m : Framed K) × (read_of T xs ≡ accepted m) × FirstRefused f m.params n vs))
+  unfolding plain_by
+  refusals n vs =
+      let (to, from) = through_refuses (read_of T xs) (λ m. m.params) f (λ m. octets_of T m.type) n vs in
+      ((λ e. to (sym plain ∙ e)), (λ w. plain ∙ from w))

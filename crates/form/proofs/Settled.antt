@@ -1,76 +1,63 @@
 -- Demand 3, for any octets and any lawful alphabet.
 use Prim.Native.Nat.{ℕ, ◌+◌, ◌≤◌}
-use mathlib.Core.Path.{◌≡◌, refl, sym, ap, ◌∙◌}
+use mathlib.Core.Path.{◌≡◌, refl, sym, ◌∙◌}
 use mathlib.Core.Bool.{Bool, true, false}
 use mathlib.Core.Logic.{◌⊎◌, ◌↔◌}
 use mathlib.Core.List.{List, [], ◌∷◌, ◌++◌}
 use native.Mathlib.Omega.{arith}
 use lib.ListN.{length, drop}
-use Rattle.bcd.specs.Outcome.{accepted, refused, after, mapped, All, Octets, most}
+use Rattle.bcd.specs.Outcome.{accepted, refused, after, All, Octets, most}
 use Rattle.bcd.specs.Digits.{Alphabet, Lawful}
 use Rattle.bcd.proofs.Outcomes.{never, after_inv, mapped_inv}
 use Rattle.parameter.specs.Parameter.{Param, round_up, run_length, four_in}
-use Rattle.parameter.proofs.RoundTrip.{all-sized}
 use Rattle.address.specs.Address.{Address, address_in, write_address, rewrite_address}
-use Rattle.message.specs.declared.types.MessageType.{MessageType}
-use Rattle.message.specs.Message.{Message, read_message, message_octets, write_message}
-use Rattle.message.proofs.Messages.{message_of, message-framed, octets-framed, message-written}
-use Rattle.form.specs.Form.{is_address, settled_param, settled, Part, Meaning, meaning}
+use Rattle.message.specs.Types.{sua_kinds}
+use Rattle.message.specs.Message.{Message, read_message, write_message}
+use Rattle.form.specs.Form.{is_address, settled_param, settled, Meaning, meaning}
 use Rattle.form.specs.HasForm.{Settles, FirstRefused}
-use Rattle.form.proofs.Family.{Meant, settled_of, meaning_of}
+use Rattle.form.specs.Family.{rewritten, settled_of}
+use Rattle.form.specs.Laws.{sua, sua_lawful, param-rewritten}
 use Rattle.form.proofs.Forms as F
-use Rattle.form.proofs.Refusals.{mapped_refuses, after_refuses, Accepts, all_iff, through_accepts, through_refuses}
+use Rattle.form.proofs.Forms.{settled-same}
+use Rattle.form.proofs.Refusals as R
+use Rattle.form.proofs.Refusals.{mapped_refuses, after_refuses, Accepts, all_iff}
 use Rattle.form.proofs.Settling.{settled_other}
-use Rattle.form.proofs.Sua.{sua, meant_by, settled_plain, settled-framed, meaning-framed, meaning-same, sua_lawful}
+
+-- The form is the family's.
+pub of_family : (A : Alphabet) (xs : List ℕ) → settled A xs ≡ settled_of sua_kinds (sua A) xs
+of_family A = settled-same sua_kinds (settled_param A) (rewritten (sua A)) (param-rewritten A)
 
 module _ (A : Alphabet) (L : Lawful A) where
   module _ (xs f : List ℕ) (o : Octets xs) (e : settled A xs ≡ accepted f) where
-    framed : settled_of (sua A) xs ≡ accepted f
-    framed = sym (settled-framed A L xs o) ∙ e
-
-    abbrev known : Meant MessageType Part
-    known = F.meant (sua A) (sua_lawful A L) xs f o framed
-
-    meant : (ys : List ℕ) → meaning_of (sua A) ys ≡ accepted known → meaning A ys ≡ accepted (meant_by known)
-    meant ys h = meaning-framed A ys ∙ ap (mapped meant_by) h
+    framed : settled_of sua_kinds (sua A) xs ≡ accepted f
+    framed = sym (of_family A xs) ∙ e
 
     -- Read back: a form means what the message meant, and it is read, with its addresses, without refusal.
     pub read_back : (meaning A f ≡ meaning A xs) × ((m : Meaning) × (meaning A f ≡ accepted m))
-    read_back =
-        let before = meant xs (F.means (sua A) (sua_lawful A L) xs f o framed) in
-        let behind = meant f (F.remeans (sua A) (sua_lawful A L) xs f o framed) in
-        (behind ∙ sym before, (_, behind))
+    read_back = F.read_back sua_kinds (sua A) (sua_lawful A L) xs f o framed
 
     pub form_octets : Octets f
-    form_octets = F.form_octets (sua A) (sua_lawful A L) xs f o framed
+    form_octets = F.form_octets sua_kinds (sua A) (sua_lawful A L) xs f o framed
 
     -- Again: a form is its own form.
     pub again : settled A f ≡ accepted f
-    again = settled-framed A L f form_octets ∙ F.again (sua A) (sua_lawful A L) xs f o framed
+    again = of_family A f ∙ F.again sua_kinds (sua A) (sua_lawful A L) xs f o framed
 
     -- Length: that of the header, and the padded lengths of the parameters that reading the form gives.
     pub form_length : (m : Message) × (read_message f ≡ accepted m) × (length f ≡ 8 + run_length m.params)
-    form_length =
-        let (m, hm, l) = F.form_length (sua A) (sua_lawful A L) xs f o framed in
-        (message_of m, message-framed f ∙ ap (mapped message_of) hm, l)
+    form_length = F.form_length sua_kinds (sua A) (sua_lawful A L) xs f o framed
 
     -- A form is what encoding gives of the message that it is read as.
     pub form_encodes : (m : Message) × (read_message f ≡ accepted m) × (write_message m ≡ accepted f)
-    form_encodes =
-        let k = F.formed (sua A) (sua_lawful A L) xs f o framed in (
-          record { type = k.kind; params = k.new },
-          message-framed f ∙ ap (mapped message_of) k.reread,
-          message-written k.kind k.new (all-sized k.new k.rewrites.fits) k.small
-              ∙ ap accepted (octets-framed k.kind k.new ∙ sym k.octets),
-        )
+    form_encodes = F.form_encodes sua_kinds (sua A) (sua_lawful A L) xs f o framed
 
     -- Room: a form is never longer than the octets given, rounded up to a multiple of 4, nor than the most that may be given.
     pub form_room : (length f ≤ round_up (length xs)) × (length f ≤ most)
-    form_room = F.form_room (sua A) (sua_lawful A L) xs f o framed
+    form_room = F.form_room sua_kinds (sua A) (sua_lawful A L) xs f o framed
 
     -- The message length in a form is the true one, also where other octets follow.
     pub form_declared : (rest : List ℕ) → four_in (drop 4 (f ++ rest)) ≡ length f
-    form_declared = F.form_declared (sua A) (sua_lawful A L) xs f o framed
+    form_declared = F.form_declared sua_kinds (sua A) (sua_lawful A L) xs f o framed
 
   -- Equal: two forms are equal exactly where the messages mean the same.
   pub equal :
@@ -80,10 +67,7 @@ module _ (A : Alphabet) (L : Lawful A) where
       → settled A xs ≡ accepted f
       → settled A ys ≡ accepted g
       → (f ≡ g) ↔ (meaning A xs ≡ meaning A ys)
-  equal xs ys f g o q e d =
-      let (to, from) = F.equal (sua A) (sua_lawful A L) xs ys f g o q (framed xs f o e) (framed ys g q d) in
-      let (down, up) = meaning-same A xs ys in
-      ((λ same. up (to same)), (λ same. from (down same)))
+  equal xs ys f g o q e d = F.equal sua_kinds (sua A) (sua_lawful A L) xs ys f g o q (framed xs f o e) (framed ys g q d)
 
 module _ (A : Alphabet) where
   settles : (p : Param) → Accepts (settled_param A) p ↔ Settles A p
@@ -105,12 +89,11 @@ module _ (A : Alphabet) where
     pub has_form :
         ((f : List ℕ) × (settled A xs ≡ accepted f)) ↔ ((m : Message) × (read_message xs ≡ accepted m) × All (Settles A) m.params)
     has_form =
-        let (to, from) = through_accepts (read_message xs) (λ m. m.params) (settled_param A) (λ m. message_octets m.type) in
+        let (to, from) = R.has_form sua_kinds (sua A) (sua_lawful A L) (settled_param A) (param-rewritten A) xs o in
         let each : (m : Message) → All (Accepts (settled_param A)) m.params ↔ All (Settles A) m.params =
-        λ m. all_iff (Accepts (settled_param A)) (Settles A) settles m.params in
-        let same = settled_plain A L xs o in (
-          (λ (f, e). let (m, hm, h) = to (f, sym same ∙ e) in (m, hm, (each m).0 h)),
-          (λ (m, hm, h). let (f, e) = from (m, hm, (each m).1 h) in (f, same ∙ e)),
+        λ m. all_iff (Accepts (settled_param A)) (Settles A) settles m.params in (
+          (λ w. let (m, hm, h) = to w in (m, hm, (each m).0 h)),
+          (λ (m, hm, h). from (m, hm, (each m).1 h)),
         )
 
     -- Settling refuses as reading does, or else as the first address in wire order that is not read, or not written again.
@@ -119,10 +102,7 @@ module _ (A : Alphabet) where
         → (settled A xs ≡ refused n vs)
         ↔ ((read_message xs ≡ refused n vs)
         ⊎ ((m : Message) × (read_message xs ≡ accepted m) × FirstRefused (settled_param A) m.params n vs))
-    refusals n vs =
-        let (to, from) = through_refuses (read_message xs) (λ m. m.params) (settled_param A) (λ m. message_octets m.type) n vs in
-        let same = settled_plain A L xs o in
-        ((λ e. to (sym same ∙ e)), (λ w. same ∙ from w))
+    refusals = R.refusals sua_kinds (sua A) (sua_lawful A L) (settled_param A) (param-rewritten A) xs o
 
   -- A parameter is refused where it is an address: as its reading is, or else as its writing is.
   pub param_refusals :

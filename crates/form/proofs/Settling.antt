@@ -1,22 +1,22 @@
 -- What the definition of the settled form says, for any octets: what a parameter gives, what a form does not depend on, what
 -- it is read as, and the steps read, replace, encode.
 use Prim.Native.Nat.{ℕ, ◌+◌, ◌≤◌}
-use mathlib.Core.Path.{◌≡◌, refl, sym, ap, ap₂, ◌∙◌, subst}
+use mathlib.Core.Path.{◌≡◌, refl, sym, ap, ◌∙◌, subst}
 use mathlib.Core.Bool.{Bool, true, false}
 use mathlib.Core.List.{List, [], ◌∷◌, ◌++◌}
 use lib.ListN.{length}
 use Rattle.bcd.specs.Outcome.{Outcome, accepted, refused, pick, after, mapped, each, All, most}
 use Rattle.bcd.specs.Digits.{Alphabet}
-use Rattle.bcd.proofs.Outcomes.{accepted_inj, after_inv, mapped_inv, each_inv, all_append}
+use Rattle.bcd.proofs.Outcomes.{accepted_inj, mapped_inv, each_inv, all_append}
 use Rattle.parameter.specs.Parameter.{Param, param}
 use Rattle.parameter.specs.Padding.{Holds}
 use Rattle.address.specs.Address.{rewrite_address}
-use Rattle.message.specs.Message.{Message, message, read_message, write_message}
-use Rattle.message.proofs.Messages.{written_reads}
-use Rattle.message.proofs.Ignored as Read
+use Rattle.message.specs.Types.{sua_kinds}
+use Rattle.message.specs.Message.{Message, message, read_message}
 use Rattle.form.specs.Form.{is_address, is_hop_counter, settled_param, settled}
 use Rattle.form.specs.HopCounters.{Kept, without_hop_counters}
 use Rattle.form.proofs.Tags.{counter_no_address, address_no_counter}
+use Rattle.form.proofs.Ignored as I
 
 module _ (A : Alphabet) where
   module _ (p : Param) where
@@ -73,20 +73,19 @@ module _ (A : Alphabet) where
 
   -- Messages that are read the same have the same form.
   pub by_reading : (xs ys : List ℕ) → read_message xs ≡ read_message ys → settled A xs ≡ settled A ys
-  unfolding settled
-  by_reading xs ys e = rw e
+  by_reading = I.by_reading sua_kinds (settled_param A)
 
   module _ (v r c t a b d e : ℕ) where
     -- The reserved octet is in no form.
     pub reserved_ignored :
         (s : ℕ) (rest : List ℕ) → settled A (v ∷ r ∷ c ∷ t ∷ a ∷ b ∷ d ∷ e ∷ rest) ≡ settled A (v ∷ s ∷ c ∷ t ∷ a ∷ b ∷ d ∷ e ∷ rest)
-    reserved_ignored s rest = by_reading _ _ (Read.reserved_ignored v r s c t a b d e rest)
+    reserved_ignored = I.reserved_ignored sua_kinds (settled_param A) v r c t a b d e
 
     -- The declared length is in no form.
     pub length_ignored :
         (i j k l : ℕ) (rest : List ℕ)
         → settled A (v ∷ r ∷ c ∷ t ∷ a ∷ b ∷ d ∷ e ∷ rest) ≡ settled A (v ∷ r ∷ c ∷ t ∷ i ∷ j ∷ k ∷ l ∷ rest)
-    length_ignored i j k l rest = by_reading _ _ (Read.length_ignored v r c t a b d e i j k l rest)
+    length_ignored = I.length_ignored sua_kinds (settled_param A) v r c t a b d e
 
     -- What the padding holds, whether the last padding is there, and under four octets after the last parameter are in no
     -- form: only the run of parameters that the octets behind the header hold.
@@ -97,7 +96,7 @@ module _ (A : Alphabet) where
         → 8 + length os ≤ most
         → 8 + length qs ≤ most
         → settled A (v ∷ r ∷ c ∷ t ∷ a ∷ b ∷ d ∷ e ∷ os) ≡ settled A (v ∷ r ∷ c ∷ t ∷ a ∷ b ∷ d ∷ e ∷ qs)
-    padding_ignored h k l n = by_reading _ _ (Read.padding_ignored v r c t a b d e h k l n)
+    padding_ignored = I.padding_ignored sua_kinds (settled_param A) v r c t a b d e
 
   module _ (xs : List ℕ) where
     -- A form is read as the message's type and its parameters, each address among them read and written again, and the hop
@@ -109,26 +108,11 @@ module _ (A : Alphabet) where
         × (read_message xs ≡ accepted m)
         × (each (settled_param A) m.params ≡ accepted ps)
         × (read_message f ≡ accepted (message m.type ps))
-    unfolding settled
-    form_read f e =
-        let (m, hm, e1) = after_inv (read_message xs) _ e in
-        let (ps, hp, hw) = after_inv (each (settled_param A) m.params) _ e1 in
-        (m, ps, hm, hp, written_reads (message m.type ps) f hw)
+    form_read = I.form_read sua_kinds (settled_param A) xs
 
     -- No parameter of a form is a hop counter.
     pub no_hop_counters : (f : List ℕ) → settled A xs ≡ accepted f → (m : Message) × (read_message f ≡ accepted m) × All Kept m.params
     no_hop_counters f e = let (m, ps, hm, hp, hf) = form_read f e in (message m.type ps, hf, params-kept m.params ps hp)
-
-    pub settled_unread : (n : ℕ) (vs : List ℕ) → read_message xs ≡ refused n vs → settled A xs ≡ refused n vs
-    unfolding settled
-    settled_unread n vs e = rw e
-
-    pub settled-read :
-        (m : Message)
-        → read_message xs ≡ accepted m
-        → settled A xs ≡ after (each (settled_param A) m.params) (λ ps. write_message (message m.type ps))
-    unfolding settled
-    settled-read m e = rw e
 
   -- Messages that are read as one type, and whose parameters give the same, have the same form or the same refusal.
   pub settled_alike :
@@ -138,8 +122,7 @@ module _ (A : Alphabet) where
       → m.type ≡ n.type
       → each (settled_param A) m.params ≡ each (settled_param A) n.params
       → settled A xs ≡ settled A ys
-  settled_alike xs ys m n hm hn t e =
-      settled-read xs m hm ∙ ap₂ (λ t o. after o (λ ps. write_message (message t ps))) t e ∙ sym (settled-read ys n hn)
+  settled_alike = I.settled_alike sua_kinds (settled_param A)
 
   -- The hop counters are in no form: messages that are read as one type, and as one list of parameters apart from these, have
   -- the same form or the same refusal.

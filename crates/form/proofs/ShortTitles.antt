@@ -10,6 +10,7 @@ use Rattle.parameter.specs.Parameter.{Param, param}
 use Rattle.address.specs.Address.{address_in, rewrite_address}
 use Rattle.address.proofs.Short.{short-reads-the-same, short-settles-the-same}
 use Rattle.message.specs.Message.{Message, read_message}
+use Rattle.form.specs.Family.{meaning_by}
 use Rattle.form.specs.Form.{is_address, settled_param, settled, address, part_in, meaning}
 use Rattle.form.specs.ShortTitles.{SameParam, SameParams}
 use Rattle.form.proofs.Settling.{settled-address, settled_alike}
@@ -50,7 +51,7 @@ module _ (A : Alphabet) where
       (xs : List ℕ) (m : Message)
       → read_message xs ≡ accepted m
       → meaning A xs ≡ mapped (λ ps. record { type = m.type; parts = ps }) (each (part_in A) m.params)
-  unfolding meaning
+  unfolding meaning_by
   meaning-read xs m e = rw e
 
   module _

@@ -11,6 +11,7 @@ use Rattle.parameter.specs.Parameter.{Param, Fits}
 use Rattle.address.specs.Address.{Address, address_in, read_address}
 use Rattle.address.proofs.Standing.{address-listed}
 use Rattle.message.specs.Message.{Message, read_message}
+use Rattle.form.specs.Family.{meaning_by}
 use Rattle.form.specs.Form.{is_address, Part, raw, address, part_in, Meaning, meaning}
 use Rattle.form.specs.HopCounters.{Kept}
 use Rattle.form.specs.Standing.{AllStand}
@@ -50,7 +51,7 @@ pub meaning_stands :
     → All Kept m.params
     → meaning built_in xs ≡ accepted w
     → AllStand m.params w.parts
-unfolding meaning
+unfolding meaning_by
 meaning_stands xs m w hm fits kept e =
     let (ps, hp, j) = mapped_inv _ (each (part_in built_in) m.params) (rw hm at e) in
     stand m.params w.parts fits kept (hp ∙ ap (λ (w : Meaning). accepted w.parts) j)

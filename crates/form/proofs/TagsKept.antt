@@ -14,6 +14,7 @@ use Rattle.bcd.proofs.Outcomes.{accepted_inj, after_inv, mapped_inv, each_inv}
 use Rattle.parameter.specs.Parameter.{Param, param}
 use Rattle.address.specs.Address.{address_in, rewrite_address}
 use Rattle.message.specs.Message.{Message, message, read_message}
+use Rattle.form.specs.Family.{meaning_by}
 use Rattle.form.specs.Form.{is_address, is_hop_counter, settled_param, settled, Part, raw, address, part_tag, part_in, Meaning, meaning}
 use Rattle.form.proofs.Tags.{counter_tag, address_no_counter}
 use Rattle.form.proofs.Settling.{settled-address, settled_other, form_read}
@@ -93,7 +94,7 @@ module _ (A : Alphabet) where
       → meaning A xs ≡ accepted w
       → read_message xs ≡ accepted m
       → map part_tag w.parts ≡ filter (λ tag. not (eqb tag 0x0101)) (map (λ (p : Param). p.tag) m.params)
-  unfolding meaning
+  unfolding meaning_by
   meaning_tags xs w m e r =
       let (k, hk, hm) = after_inv (read_message xs) _ e in
       let (ps, hp, same) = mapped_inv (λ ps. record { type = k.type; parts = ps }) (each (part_in A) k.params) hm in

@@ -7,70 +7,94 @@ use borrow.Author.Tests.{le-leb}
 use lib.ListN.{length, get_or}
 use borrow.Rule.Slice.PartMut.{mid_of}
 use Rattle.bcd.specs.Outcome.{Outcome, accepted, refused, after, mapped, most, fit64, deliver}
-use Rattle.bcd.specs.Digits.{built_in}
-use Rattle.bcd.proofs.Outcomes.{mapped_inv, octets-of, deliver_refused, deliver-passed_on}
-use Rattle.bcd.proofs.Characters.{built_in_lawful}
-use Rattle.parameter.specs.Parameter.{run_octets, run_length, writable}
+use Rattle.bcd.proofs.Outcomes.{never, mapped_inv, deliver_refused, deliver-passed_on, octets-of}
+use Rattle.parameter.specs.Parameter.{Param, run_octets, run_length, writable}
 use Rattle.parameter.proofs.RoundTrip.{run_length_lem}
 use Rattle.parameter.proofs.Running.{sum-writable}
-use Rattle.message.specs.declared.header.CommonHeader.{CommonHeader}
-use Rattle.message.specs.Message.{framed, read_header, message_octets}
-use Rattle.message.proofs.Listing.{header_within, framed-length}
-use Rattle.form.specs.Form.{settled}
-use Rattle.form.specs.Steps.Passes.{settled_run, Placeable}
-use Rattle.form.proofs.Passes.{settled_refused, settled_run_lem}
-use Rattle.form.proofs.Measuring.{length_refused, run_small}
+use Rattle.message.specs.Kinds.{Kinds}
+use Rattle.message.specs.Framed.{framed_of, named_by, octets_of}
+use Rattle.message.proofs.Framing.{octets-length}
+use Rattle.message.proofs.Listing.{framed-length}
+use Rattle.form.specs.Family.{Family, rewritten, settled_of, LawfulFamily}
+use Rattle.form.specs.Steps.Passes.{run_by, Placeable}
+use Rattle.form.proofs.Forms.{plain_by, settled_plain}
+use Rattle.form.proofs.Passes.{roomy, plain_refused, plain_run, run_room}
 use Rattle.form.proofs.Written.{lent-length}
 
--- What is refused, and the output left as it was.
-pub settle_unread :
-    (xs out : List ℕ) (n : ℕ) (vs : List ℕ)
-    → refused n vs ≡ read_header xs
-    → record { answer = refused n vs; buffer = out } ≡ deliver (settled built_in xs) out
-settle_unread xs out n vs e = rw (settled_refused built_in xs n vs (sym e)) (deliver_refused n vs out)
+module _ {K M : Type 0} (T : Kinds K) (F : Family M) (L : LawfulFamily F) (xs : List ℕ) (o : (i : ℕ) → get_or xs i 0 < 256) where
+  plain : settled_of T F xs ≡ plain_by T (rewritten F) xs
+  plain = settled_plain T F L xs (octets-of xs o)
 
-module _ (xs out : List ℕ) (o : (i : ℕ) → get_or xs i 0 < 256) (h : CommonHeader) (e : accepted h ≡ read_header xs) where
-  pub settle_refused :
-      (n : ℕ) (vs : List ℕ)
-      → refused n vs ≡ mapped run_length (settled_run built_in xs)
-      → record { answer = refused n vs; buffer = out } ≡ deliver (settled built_in xs) out
-  settle_refused n vs k = deliver-passed_on (settled built_in xs) n vs out (length_refused xs o h e n vs k)
+  -- A header that is refused.
+  pub unread : (n : ℕ) (vs : List ℕ) → refused n vs ≡ named_by T xs → settled_of T F xs ≡ refused n vs
+  unread n vs e = plain ∙ plain_refused T (rewritten F) xs n vs (sym e)
 
--- The first pass told what the parameters take.
-module _ (xs : List ℕ) (o : (i : ℕ) → get_or xs i 0 < 256) (h : CommonHeader) (e : accepted h ≡ read_header xs) (run : ℕ) (k : accepted run ≡ mapped run_length (settled_run built_in xs)) where
-  abbrev pub octets : Outcome (List ℕ)
-  octets = mapped run_octets (settled_run built_in xs)
+  pub settle_unread :
+      (n : ℕ) (vs out : List ℕ) → refused n vs ≡ named_by T xs → record { answer = refused n vs; buffer = out } ≡ deliver (settled_of T F xs) out
+  settle_unread n vs out e = deliver_refused n vs out ∙ ap (λ o. deliver o out) (sym (unread n vs e))
 
-  pub counted : accepted run ≡ mapped (λ (os : List ℕ). fit64 (length os)) octets
-  counted =
-      let (qs, q, l) = mapped_inv run_length (settled_run built_in xs) (sym k) in
-      let same : run ≡ fit64 (length (run_octets qs)) = omega (arith, run_length_lem qs, l, run_small xs o h e run k) in
-      ap accepted same ∙ sym (ap (λ o. mapped (λ (os : List ℕ). fit64 (length os)) (mapped run_octets o)) q)
+  -- A header that is read, and what the first pass answers.
+  module _ (h : K × ℕ) (e : accepted h ≡ named_by T xs) where
+    form_run : settled_of T F xs ≡ mapped (octets_of T h.0) (run_by (rewritten F) xs)
+    form_run = plain ∙ plain_run T (rewritten F) xs h (sym e)
 
-  pub fits : octets ≡ after octets writable
-  fits = sym (sum-writable octets run counted (omega (arith, run_small xs o h e run k)))
+    pub length_refused : (n : ℕ) (vs : List ℕ) → refused n vs ≡ mapped run_length (run_by (rewritten F) xs) → refused n vs ≡ mapped length (settled_of T F xs)
+    length_refused n vs k = go (run_by (rewritten F) xs) k ∙ sym (ap (mapped length) form_run)
+      where
+        go : (r : Outcome (List Param)) → refused n vs ≡ mapped run_length r → refused n vs ≡ mapped length (mapped (octets_of T h.0) r)
+        go (accepted qs) k = absurd (never k)
+        go (refused m ws) k = k
 
-  -- The form is the header and the parameters.
-  pub whole : settled built_in xs ≡ after octets (λ os. writable (framed h.message_type os))
-  unfolding message_octets
-  whole =
-      let m = h.message_type in
-      let (qs, q, l) = mapped_inv run_length (settled_run built_in xs) (sym k) in
-      let small : length (framed m (run_octets qs)) ≤ most = omega (arith, framed-length m (run_octets qs), run_length_lem qs, l, run_small xs o h e run k) in
-      let w : writable (framed m (run_octets qs)) ≡ accepted (framed m (run_octets qs)) = rw (le-leb (length (framed m (run_octets qs))) most small) in
-      settled_run_lem built_in built_in_lawful xs (octets-of xs o) h (sym e) ∙ ap (mapped (message_octets m)) q
-      ∙ sym (ap (λ o. after (mapped run_octets o) (λ os. writable (framed m os))) q ∙ w)
+    pub settle_refused :
+        (n : ℕ) (vs out : List ℕ)
+        → refused n vs ≡ mapped run_length (run_by (rewritten F) xs)
+        → record { answer = refused n vs; buffer = out } ≡ deliver (settled_of T F xs) out
+    settle_refused n vs out k = deliver-passed_on (settled_of T F xs) n vs out (length_refused n vs k)
+
+    module _ (run : ℕ) (k : accepted run ≡ mapped run_length (run_by (rewritten F) xs)) where
+      -- A form is within the bound, so its length fits.
+      pub run_small : 8 + run ≤ most
+      run_small =
+          let (qs, q, l) = mapped_inv run_length (run_by (rewritten F) xs) (sym k) in
+          omega (arith, run_room (rewritten F) (roomy F L) T xs h qs (octets-of xs o) (sym e) q, l)
+
+      -- The length of a form is the header's and the parameters'.
+      pub length_run : accepted (8 + run) ≡ mapped length (settled_of T F xs)
+      length_run =
+          let (qs, q, l) = mapped_inv run_length (run_by (rewritten F) xs) (sym k) in
+          let w = form_run ∙ ap (mapped (octets_of T h.0)) q in
+          ap accepted (ap (λ (i : ℕ). 8 + i) (sym l) ∙ sym (octets-length T h.0 qs)) ∙ sym (ap (mapped length) w)
+
+      abbrev pub octets : Outcome (List ℕ)
+      octets = mapped run_octets (run_by (rewritten F) xs)
+
+      pub counted : accepted run ≡ mapped (λ (os : List ℕ). fit64 (length os)) octets
+      counted =
+          let (qs, q, l) = mapped_inv run_length (run_by (rewritten F) xs) (sym k) in
+          let same : run ≡ fit64 (length (run_octets qs)) = omega (arith, run_length_lem qs, l, run_small) in
+          ap accepted same ∙ sym (ap (λ o. mapped (λ (os : List ℕ). fit64 (length os)) (mapped run_octets o)) q)
+
+      pub fits : octets ≡ after octets writable
+      fits = sym (sum-writable octets run counted (omega (arith, run_small)))
+
+      -- The form is the header and the parameters.
+      pub whole : settled_of T F xs ≡ after octets (λ os. writable (framed_of T h.0 os))
+      unfolding octets_of
+      whole =
+          let (qs, q, l) = mapped_inv run_length (run_by (rewritten F) xs) (sym k) in
+          let form = framed_of T h.0 (run_octets qs) in
+          let small : length form ≤ most = omega (arith, framed-length T h.0 (run_octets qs), run_length_lem qs, l, run_small) in
+          let w : writable form ≡ accepted form = rw (le-leb (length form) most small) in
+          form_run ∙ ap (mapped (octets_of T h.0)) q
+          ∙ sym (ap (λ o. after (mapped run_octets o) (λ os. writable (framed_of T h.0 os))) q ∙ w)
 
 -- There is room for them behind a header.
 pub placeable :
-    (xs d : List ℕ) (run : ℕ)
-    → accepted run ≡ mapped run_length (settled_run built_in xs)
+    (f : Param → Outcome (List Param)) (xs d : List ℕ) (run : ℕ)
+    → accepted run ≡ mapped run_length (run_by f xs)
     → 8 + run ≤ length d
-    → Placeable (settled_run built_in xs) (length (mid_of 8 (length d - 8) d))
-placeable xs d run k room =
-    let (qs, q, l) = mapped_inv run_length (settled_run built_in xs) (sym k) in
+    → Placeable (run_by f xs) (length (mid_of 8 (length d - 8) d))
+placeable f xs d run k room =
+    let (qs, q, l) = mapped_inv run_length (run_by f xs) (sym k) in
     let n = lent-length d 8 in
     record { params = qs; settles = q; fits = omega arith }
-
--- What `settle` needs before its header is written.
-pub ruleset before_writing = (header_within, settle_unread, settle_refused)

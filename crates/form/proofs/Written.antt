@@ -6,56 +6,49 @@ use native.Mathlib.Omega.{arith}
 use lib.ListN.{length, drop, length-take, length-drop}
 use borrow.Rule.Slice.PartMut.{mid_of, put_mid}
 use Rattle.bcd.specs.Outcome.{Outcome, accepted, refused, mapped, each, bounded, most, deliver}
-use Rattle.bcd.specs.Digits.{built_in}
 use Rattle.bcd.proofs.Outcomes.{accepted_inj, never, each_inv, each_split, each_append, bounded-within, deliver_buffer, deliver_answer}
 use Rattle.bcd.proofs.Writing.{Begun, untouched, extend, delivered}
 use Rattle.parameter.specs.declared.Place.{Place}
-use Rattle.parameter.specs.Parameter.{Param, run_octets, run_length}
+use Rattle.parameter.specs.Parameter.{Param, run_octets, run_length, Fits}
 use Rattle.parameter.specs.Walk
 use Rattle.parameter.specs.Walk.{ended, found, step_at, places, valued}
 use Rattle.parameter.proofs.RoundTrip.{run_length_lem, run_length-append, run_octets-append}
 use Rattle.parameter.proofs.Reaching.{Reached, reached_start, reached_end, reached_refused, places_turn, walk_step, walk_more}
-use Rattle.form.specs.Form.{settled_param}
-use Rattle.form.specs.Steps.Passes.{settled_run, Placeable}
+use Rattle.form.specs.Steps.Passes.{run_by, Placeable}
 use Rattle.form.proofs.Passes.{run_walked, run_refused}
 
 -- The form's parameters are known, and fit.
-pub record Known (xs : List ℕ) (room : ℕ) : Type 0 where
+pub record Known (f : Param → Outcome (List Param)) (xs : List ℕ) (room : ℕ) : Type 0 where
   pub walked : List Place
   pub places : places xs 8 ≡ accepted walked
   pub params : List Param
-  pub settles : each (settled_param built_in) (map (valued xs) walked) ≡ accepted params
+  pub settles : each f (map (valued xs) walked) ≡ accepted params
   pub fits : run_length params ≤ room
 
-pub known : (xs : List ℕ) (room : ℕ) → Placeable (settled_run built_in xs) room → Known xs room
-known xs room p = go (Walk.places xs 8) refl
+pub known : (f : Param → Outcome (List Param)) (xs : List ℕ) (room : ℕ) → Placeable (run_by f xs) room → Known f xs room
+known f xs room p = go (Walk.places xs 8) refl
   where
-    go : (o : Outcome (List Place)) → Walk.places xs 8 ≡ o → Known xs room
-    go (refused n vs) w = absurd (never (sym (run_refused built_in xs n vs w) ∙ p.settles))
+    go : (o : Outcome (List Place)) → Walk.places xs 8 ≡ o → Known f xs room
+    go (refused n vs) w = absurd (never (sym (run_refused f xs n vs w) ∙ p.settles))
     go (accepted ps) w =
-        record { walked = ps; places = w; params = p.params; settles = sym (run_walked built_in xs ps w) ∙ p.settles; fits = p.fits }
+        record { walked = ps; places = w; params = p.params; settles = sym (run_walked f xs ps w) ∙ p.settles; fits = p.fits }
 
-pub record Placed (xs out d : List ℕ) (from at : ℕ) : Type 0 where
+pub record Placed (f : Param → Outcome (List Param)) (xs out d : List ℕ) (from at : ℕ) : Type 0 where
   pub reached : Reached xs 8 from
   pub params : List Param
-  pub so_far : each (settled_param built_in) (map (valued xs) reached.done) ≡ accepted params
+  pub so_far : each f (map (valued xs) reached.done) ≡ accepted params
   pub begun : Begun out (run_octets params) d
   pub place : run_length params ≡ at
 
-pub placed_start : (xs out : List ℕ) → Placed xs out out 8 0
+pub placed_start : (f : Param → Outcome (List Param)) (xs out : List ℕ) → Placed f xs out out 8 0
 unfolding run_octets run_length
-placed_start xs out = record { reached = reached_start xs 8; params = []; so_far = refl; begun = untouched out; place = refl }
+placed_start f xs out = record { reached = reached_start xs 8; params = []; so_far = refl; begun = untouched out; place = refl }
 
 -- The part of a buffer that is lent from a place on.
 pub lent-length : (d : List ℕ) (at : ℕ) → length (mid_of at (length d - at) d) ≡ length d - at
 lent-length d at = rw (length-take (length d - at) (drop at d), length-drop at d) (omega arith)
 
--- What a turn of the writing loop needs.
-pub record Turn (xs d : List ℕ) (q : Place) (at : ℕ) : Type 0 where
-  pub part : Placeable (settled_param built_in (valued xs q)) (length (mid_of at (length d - at) d))
-  pub room : at ≤ length d
-
-module _ {xs out d : List ℕ} {from at : ℕ} (k : Known xs (length out)) (p : Placed xs out d from at) where
+module _ {f : Param → Outcome (List Param)} {xs out d : List ℕ} {from at : ℕ} (k : Known f xs (length out)) (p : Placed f xs out d from at) where
   module _ (q : Place) (next : ℕ) (e : accepted (found q next) ≡ bounded xs (step_at xs from)) where
     -- what is left of the places behind the one that a step finds
     after-found : (rest : List Place) × (k.walked ≡ p.reached.done ++ q ∷ rest)
@@ -69,10 +62,9 @@ module _ {xs out d : List ℕ} {from at : ℕ} (k : Known xs (length out)) (p : 
         go (refused m vs) w = absurd (never (sym (here ∙ ap (λ o. mapped (λ qs. p.reached.done ++ qs) (mapped (λ ps. q ∷ ps) o)) w)))
 
     -- the parameter found has its part of the form, which fits
-    found_part : (qs : List Param) × (settled_param built_in (valued xs q) ≡ accepted qs) × (at + run_length qs ≤ length out)
+    found_part : (qs : List Param) × (f (valued xs q) ≡ accepted qs) × (at + run_length qs ≤ length out)
     found_part =
         let (rest, w) = after-found in
-        let f = settled_param built_in in
         let done = map (valued xs) p.reached.done in
         let all : each f (done ++ (valued xs q ∷ map (valued xs) rest)) ≡ accepted k.params =
         sym (ap (each f) (ap (map (valued xs)) w ∙ map-append (valued xs) p.reached.done (q ∷ rest))) ∙ k.settles in
@@ -86,16 +78,12 @@ module _ {xs out d : List ℕ} {from at : ℕ} (k : Known xs (length out)) (p : 
         let z : run_length k.params ≡ run_length (us ++ vs) = ap run_length (sym j) in
         (qs, hq, omega (arith, k.fits))
 
-    pub turn : Turn xs d q at
-    turn =
-        let (qs, hq, room) = found_part in
-        let l = lent-length d at in
-        record {
-          part = record { params = qs; settles = hq; fits = omega (arith, p.begun.same) };
-          room = omega (arith, p.begun.same);
-        }
+    -- what is put stands there: it has room
+    pub turn_room : at ≤ length d
+    turn_room = let (qs, hq, room) = found_part in omega (arith, p.begun.same)
 
-    module _ (a : Outcome ℕ) (last : List ℕ) (w : record { answer = a; buffer = last } ≡ deliver (mapped run_octets (settled_param built_in (valued xs q))) (mid_of at (length d - at) d)) where
+    module _ (put : Param → Outcome (List ℕ)) (there : (p : Param) (qs : List Param) → Fits p → f p ≡ accepted qs → put p ≡ accepted (run_octets qs)) (fit : Fits (valued xs q))
+        (a : Outcome ℕ) (last : List ℕ) (w : record { answer = a; buffer = last } ≡ deliver (put (valued xs q)) (mid_of at (length d - at) d)) where
       -- the answer is the part's length
       pub turn_answer : (r : ℕ) × (a ≡ accepted r) × (at + r ≤ length d)
       turn_answer =
@@ -103,25 +91,25 @@ module _ {xs out d : List ℕ} {from at : ℕ} (k : Known xs (length out)) (p : 
           let l = run_length_lem qs in
           let lent = lent-length d at in
           let size = deliver_answer (run_octets qs) (mid_of at (length d - at) d) (omega (arith, p.begun.same))
-          (w ∙ ap (λ o. deliver (mapped run_octets o) (mid_of at (length d - at) d)) hq) in
+          (w ∙ ap (λ o. deliver o (mid_of at (length d - at) d)) (there (valued xs q) qs fit hq)) in
           (length (run_octets qs), size, omega (arith, p.begun.same))
 
-      pub placed_more : (r : ℕ) → a ≡ accepted r → Placed xs out (put_mid at (length d - at) d last) next (at + r)
+      pub placed_more : (r : ℕ) → a ≡ accepted r → Placed f xs out (put_mid at (length d - at) d last) next (at + r)
       placed_more r ar =
           let (qs, hq, room) = found_part in
           let l = run_length_lem qs in
           let lp = run_length_lem p.params in
           let lent = lent-length d at in
           let fits : length (run_octets qs) ≤ length (mid_of at (length d - at) d) = omega (arith, p.begun.same) in
-          let w' = w ∙ ap (λ o. deliver (mapped run_octets o) (mid_of at (length d - at) d)) hq in
+          let w' = w ∙ ap (λ o. deliver o (mid_of at (length d - at) d)) (there (valued xs q) qs fit hq) in
           let size : r ≡ length (run_octets qs) = accepted_inj (sym ar ∙ deliver_answer (run_octets qs) (mid_of at (length d - at) d) fits w') in
-          let one : each (settled_param built_in) (valued xs q ∷ []) ≡ accepted qs = rw (hq, append-nil) in
+          let one : each f (valued xs q ∷ []) ≡ accepted qs = rw (hq, append-nil) in
           record {
             reached = walk_more p.reached q next e;
             params = p.params ++ qs;
             so_far =
-                ap (each (settled_param built_in)) (map-append (valued xs) p.reached.done (q ∷ []))
-                ∙ each_append (settled_param built_in) (map (valued xs) p.reached.done) (valued xs q ∷ []) p.params qs p.so_far one;
+                ap (each f) (map-append (valued xs) p.reached.done (q ∷ []))
+                ∙ each_append f (map (valued xs) p.reached.done) (valued xs q ∷ []) p.params qs p.so_far one;
             begun =
                 subst (λ (os : List ℕ). Begun out os (put_mid at (length d - at) d last)) (sym (run_octets-append p.params qs))
                 (extend (run_octets qs) last at (length d - at) p.begun (lp ∙ p.place) (omega (arith, p.begun.same)) (omega (arith, p.begun.same))
@@ -130,13 +118,13 @@ module _ {xs out d : List ℕ} {from at : ℕ} (k : Known xs (length out)) (p : 
           }
 
   -- the walk has come to its end: all parameters are written
-  pub placed_end : accepted ended ≡ bounded xs (step_at xs from) → record { answer = accepted at; buffer = d } ≡ deliver (mapped run_octets (settled_run built_in xs)) out
+  pub placed_end : accepted ended ≡ bounded xs (step_at xs from) → record { answer = accepted at; buffer = d } ≡ deliver (mapped run_octets (run_by f xs)) out
   placed_end e =
       let same : p.params ≡ k.params =
-      accepted_inj (sym p.so_far ∙ ap (λ ps. each (settled_param built_in) (map (valued xs) ps)) (accepted_inj (sym (reached_end p.reached (walk_step xs from e)) ∙ k.places)) ∙ k.settles) in
+      accepted_inj (sym p.so_far ∙ ap (λ ps. each f (map (valued xs) ps)) (accepted_inj (sym (reached_end p.reached (walk_step xs from e)) ∙ k.places)) ∙ k.settles) in
       let b = subst (λ (qs : List Param). Begun out (run_octets qs) d) same p.begun in
       delivered at b (run_length_lem k.params ∙ ap run_length (sym same) ∙ p.place)
-      ∙ ap (λ o. deliver (mapped run_octets o) out) (sym (run_walked built_in xs k.walked k.places ∙ k.settles))
+      ∙ ap (λ o. deliver (mapped run_octets o) out) (sym (run_walked f xs k.walked k.places ∙ k.settles))
 
   pub placed_never : (m : ℕ) (vs : List ℕ) → length xs ≤ most → refused m vs ≡ bounded xs (step_at xs from) → ⊥
   placed_never m vs h e = never (sym (reached_refused p.reached m vs (sym (e ∙ bounded-within xs (step_at xs from) h))) ∙ k.places)

@@ -1,12 +1,13 @@
 -- The settled form of a message, and what a message means (document 01, module 6). The first argument is the alphabet of
 -- the digits.
 use Rattle.std.specs.Prelude.{ℕ, Bool, ◌||◌, List, [], ◌∷◌, eqb}
-use Rattle.bcd.specs.Outcome.{Outcome, accepted, pick, after, mapped, each}
+use Rattle.bcd.specs.Outcome.{Outcome, accepted, pick, mapped}
 use Rattle.bcd.specs.Digits.{Alphabet}
 use Rattle.parameter.specs.Parameter.{Param, param}
 use Rattle.address.specs.Address.{Address, address_in, rewrite_address}
 use Rattle.message.specs.declared.types.MessageType.{MessageType}
-use Rattle.message.specs.Message.{message, read_message, write_message}
+use Rattle.message.specs.Types.{sua_kinds}
+use Rattle.form.specs.Family.{settled_by, Meant, meaning_by}
 
 -- The tags of the source address and of the destination address (RFC 3868, 3.10.2 and 3.10.3).
 abbrev pub is_address : ℕ → Bool
@@ -24,14 +25,10 @@ settled_param A p =
     pick (is_address p.tag) (mapped (λ w. param p.tag w ∷ []) (rewrite_address A p.tag p.value))
     (accepted (pick (is_hop_counter p.tag) [] (p ∷ [])))
 
--- The settled form: the message is read, each address in wire order is read and written again, each hop counter is left
--- out, and the message is encoded. Reading's refusals, then for each address its reading's, 9, 10 (document 01, 'Order');
--- of octets, encoding refuses nothing more (`has_form`).
-unfoldable pub settled : Alphabet → List ℕ → Outcome (List ℕ)
-settled A xs =
-    after (read_message xs) (λ m.
-    after (each (settled_param A) m.params) (λ ps.
-    write_message (message m.type ps)))
+-- The settled form of an SUA message: each address in wire order is read and written again, and each hop counter is left out.
+-- Reading's refusals, then for each address its reading's, 9, 10 (document 01, 'Order').
+abbrev pub settled : Alphabet → List ℕ → Outcome (List ℕ)
+settled A = settled_by sua_kinds (settled_param A)
 
 -- What a parameter means: its tag with its value, or with the address that its value is read as. A hop counter means
 -- nothing.
@@ -49,10 +46,9 @@ part_in A p =
     pick (is_address p.tag) (mapped (λ a. address p.tag a ∷ []) (address_in A p.value))
     (accepted (pick (is_hop_counter p.tag) [] (raw p ∷ [])))
 
--- The meaning of a message: its type and, in wire order, what each parameter means.
-pub record Meaning : Type 0 where
-  pub type : MessageType
-  pub parts : List Part
+-- The meaning of an SUA message: its type and, in wire order, what each parameter means.
+abbrev pub Meaning : Type 0
+Meaning = Meant MessageType Part
 
-unfoldable pub meaning : Alphabet → List ℕ → Outcome Meaning
-meaning A xs = after (read_message xs) (λ m. mapped (λ ps. record { type = m.type; parts = ps }) (each (part_in A) m.params))
+abbrev pub meaning : Alphabet → List ℕ → Outcome Meaning
+meaning A = meaning_by sua_kinds (part_in A)

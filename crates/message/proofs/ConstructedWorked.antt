@@ -10,7 +10,7 @@ use Rattle.address.specs.Address.{pieces, indicator, sub_param, write_address}
 use Rattle.address.specs.Records.{with_ssn_pc}
 use Rattle.address.specs.Given.{encode_address_as}
 use Rattle.message.specs.declared.types.MessageType.TheVariants as M
-use Rattle.message.specs.Message.{message_octets, write_message}
+use Rattle.message.specs.Framed.{octets_of, write_of}
 use Rattle.pieces.specs.PointCodes.{codes_octets, codes_in}
 use Rattle.message.specs.Constructors.{cldt, cldr, asp_up, info_only, traffic_and_rc, rc_only, heartbeat_like, error_message, notify, snm}
 use Rattle.message.specs.Accessors.{data_at, affected_point_codes}
@@ -33,7 +33,7 @@ pub worked :
     ≡ accepted (
     words
     (0x01000201 ∷ 0x00000014 ∷ 0x0012000C ∷ 0x00012345 ∷ 0x00012345 ∷ [])))
-unfolding write_message message_octets run_octets param_octets encode_param encode_address_as write_address pieces indicator sub_param records rows codes_octets
+unfolding write_of octets_of run_octets param_octets encode_param encode_address_as write_address pieces indicator sub_param records rows codes_octets
 worked = (refl, refl, refl)
 
 -- What the others write.
@@ -52,7 +52,7 @@ pub worked_others :
     × (heartbeat_like M.Heartbeat (Some (0x41 ∷ [])) ≡ accepted (words (0x01000303 ∷ 0x00000010 ∷ 0x00090005 ∷ 0x41000000 ∷ [])))
     × (notify 0x00010002 (Some 7) (Some 1)
     ≡ accepted (words (0x01000001 ∷ 0x00000020 ∷ 0x000D0008 ∷ 0x00010002 ∷ 0x00110008 ∷ 0x00000007 ∷ 0x00060008 ∷ 0x00000001 ∷ [])))
-unfolding write_message message_octets run_octets param_octets encode_param encode_address_as write_address pieces indicator sub_param records rows
+unfolding write_of octets_of run_octets param_octets encode_param encode_address_as write_address pieces indicator sub_param records rows
 worked_others = (refl, refl, refl, refl, refl, refl, refl)
 
 abbrev held : List ℕ

@@ -22,6 +22,7 @@ use Rattle.message.specs.Message.{framed}
 use Rattle.message.specs.declared.types.MessageType.TheVariants as M
 use Rattle.message.specs.Constructors.{written, cldt, cldr}
 use Rattle.message.specs.Steps.Parts.{made}
+use Rattle.message.specs.Types.{sua_kinds}
 use Rattle.message.proofs.Listing.{written-framed}
 
 -- Parts that are parameters, and a part that is parameters.
@@ -32,7 +33,7 @@ pub record Is (part : Option Part) (ps : List Param) : Type 0 where
   pub one : given_written part ≡ each encode_param ps
 
 made_written : (m : MessageType) {parts : List (Option Part)} {ps : List Param} → Are parts ps → made m parts ≡ written m ps
-made_written m {parts} {ps} e = ap (λ (o : Outcome (List ℕ)). after o (λ os. writable (framed m os))) e.run ∙ sym (written-framed m (accepted ps))
+made_written m {parts} {ps} e = ap (λ (o : Outcome (List ℕ)). after o (λ os. writable (framed m os))) e.run ∙ sym (written-framed sua_kinds m (accepted ps))
 
 -- One behind the other.
 each_joined :

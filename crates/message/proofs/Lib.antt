@@ -1,8 +1,9 @@
 -- Laws and theorems that belong to no one function.
-pub mod Ignored
+pub mod Found
 pub mod Pairs
 pub mod Headers
 pub mod Framing
+pub mod Ignored
 pub mod Messages
 pub mod Listing
 pub mod Standing

@@ -1,4 +1,6 @@
 -- The definitions, in the order to read them. `Steps` holds what only contracts of private functions cite.
+pub mod Kinds
+pub mod Framed
 pub mod Types
 pub mod Message
 pub mod Listing

@@ -1,15 +1,11 @@
 -- Message classes and message types (RFC 3868, 3.1.2 and 3.1.3).
-use Rattle.std.specs.Prelude.{ℕ, zero, suc, ◌+◌, Bool, ◌&&◌, List, [], ◌∷◌, eqb}
-use Rattle.bcd.specs.Outcome.{Outcome, accepted, refused, pick}
+use Rattle.std.specs.Prelude.{ℕ, List, [], ◌∷◌, eqb}
+use Rattle.bcd.specs.Outcome.{Outcome, refused}
+use Rattle.message.specs.Kinds.{Kinds, first, kind_of, known_in}
 use Rattle.message.specs.declared.types.MessageClass.{MessageClass}
 use Rattle.message.specs.declared.types.MessageClass.TheVariants as C
 use Rattle.message.specs.declared.types.MessageType.{MessageType}
 use Rattle.message.specs.declared.types.MessageType.TheVariants as T
-
--- The first of a list that passes a test, else another outcome.
-abbrev pub first : {A : Type 0} → (A → Bool) → List A → Outcome A → Outcome A
-first test [] other = other
-first test (x ∷ xs) other = pick (test x) (accepted x) (first test xs other)
 
 -- The octet of a class (RFC 3868, 3.1.2).
 abbrev pub class_octet : MessageClass → ℕ
@@ -93,21 +89,14 @@ the_pairs =
     ∷ (8, 1) ∷ (8, 2) ∷ (8, 3) ∷ (8, 4) ∷ (8, 5) ∷ (8, 6) ∷ (8, 7) ∷ (8, 8) ∷ (8, 9) ∷ (8, 10) ∷ (8, 11)
     ∷ (9, 1) ∷ (9, 2) ∷ (9, 3) ∷ (9, 4) ∷ []
 
+-- SUA's message types with their pairs.
+abbrev pub sua_kinds : Kinds MessageType
+sua_kinds = record { all = message_types; pair_of = class_and_type }
+
 -- The message type of a class and a type; any other pair is refused as 4.
-unfoldable pub from_class_type : (class type : ℕ) → Outcome MessageType
-from_class_type class type =
-    first (λ m. eqb class (class_of m) && eqb type (type_of m)) message_types (refused 4 (class ∷ type ∷ []))
-
--- 1 for a pair that is known, else 0.
-abbrev pub known : Outcome MessageType → ℕ
-known (accepted m) = 1
-known (refused n vs) = 0
-
--- f of each number below n, added up.
-abbrev pub sum_below : (n : ℕ) → (ℕ → ℕ) → ℕ
-sum_below zero f = 0
-sum_below (suc n) f = f n + sum_below n f
+abbrev pub from_class_type : (class type : ℕ) → Outcome MessageType
+from_class_type = kind_of sua_kinds
 
 -- How many pairs of a class and a type below these numbers are known.
 abbrev pub known_pairs : (classes types : ℕ) → ℕ
-known_pairs cs ts = sum_below cs (λ c. sum_below ts (λ t. known (from_class_type c t)))
+known_pairs = known_in sua_kinds

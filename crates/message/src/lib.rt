@@ -4,6 +4,7 @@
 pub mod accessors;
 pub mod constructors;
 pub mod header;
+pub mod kinds;
 pub mod types;
 
 ghost use Rattle.std.specs.Prelude.{◌≡◌};
@@ -14,9 +15,8 @@ ghost use Rattle.message.specs.Message.{message, write_message};
 ghost use Rattle.message.specs.Listing.{listed, list_message};
 
 use bcd::error::Refusal;
-use header::{CommonHeader, put_header};
 use parameter::Place;
-use parameter::table::{Records, decode_parameters_from};
+use parameter::table::Records;
 pub use pieces::point_codes::{pack_affected_point_codes, unpack_affected_point_codes};
 use types::MessageType;
 
@@ -33,8 +33,7 @@ impl SuaMessage {
     pub fn decode(bytes: &[u8], rows: &mut [Place]) -> Result<SuaMessage, Refusal>
         ensures { listed (outcome_of result) rows.new ≡ list_message bytes.now rows.old }
     {
-        let message_type = CommonHeader::decode(bytes)?.message_type;
-        let count = decode_parameters_from(bytes, CommonHeader::SIZE, rows)?;
+        let (message_type, count) = kinds::read_into(bytes, rows)?;
         Ok(SuaMessage {
             message_type,
             count,
@@ -50,9 +49,6 @@ impl SuaMessage {
             (λ ps. write_message (message self.message_type ps)))
             out.old }
     {
-        let run = lent.parameters_length(self.count)?;
-        let total = put_header(self.message_type, run, out)?;
-        lent.encode_parameters(self.count, &mut out[CommonHeader::SIZE..])?;
-        Ok(total)
+        kinds::write_from(self.message_type, self.count, lent, out)
     }
 }

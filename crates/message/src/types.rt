@@ -4,6 +4,7 @@ ghost use Rattle.bcd.specs.Outcome.{accepted};
 ghost use Rattle.bcd.specs.Answers.{outcome_of};
 ghost use Rattle.message.specs.Types.{from_octet, from_class_type, class_and_type, class_of};
 
+use crate::kinds::MessageKind;
 use bcd::error::Refusal;
 
 // The classes of messages (RFC 3868, 3.1.2).
@@ -88,7 +89,7 @@ impl TryFrom<u8> for MessageClass {
 }
 
 // The types of class 0, management.
-#[tactic(auto, unfolding(crate::specs::Types::from_class_type))]
+#[tactic(auto, unfolding(crate::specs::Kinds::kind_of))]
 fn management(msg_type: u8) -> Result<MessageType, Refusal>
     ensures { outcome_of result ≡ from_class_type 0 msg_type }
 {
@@ -100,7 +101,7 @@ fn management(msg_type: u8) -> Result<MessageType, Refusal>
 }
 
 // The types of class 2, signalling network management.
-#[tactic(auto, unfolding(crate::specs::Types::from_class_type))]
+#[tactic(auto, unfolding(crate::specs::Kinds::kind_of))]
 fn snm(msg_type: u8) -> Result<MessageType, Refusal>
     ensures { outcome_of result ≡ from_class_type 2 msg_type }
 {
@@ -116,7 +117,7 @@ fn snm(msg_type: u8) -> Result<MessageType, Refusal>
 }
 
 // The types of class 3, ASP state maintenance.
-#[tactic(auto, unfolding(crate::specs::Types::from_class_type))]
+#[tactic(auto, unfolding(crate::specs::Kinds::kind_of))]
 fn aspsm(msg_type: u8) -> Result<MessageType, Refusal>
     ensures { outcome_of result ≡ from_class_type 3 msg_type }
 {
@@ -132,7 +133,7 @@ fn aspsm(msg_type: u8) -> Result<MessageType, Refusal>
 }
 
 // The types of class 4, ASP traffic maintenance.
-#[tactic(auto, unfolding(crate::specs::Types::from_class_type))]
+#[tactic(auto, unfolding(crate::specs::Kinds::kind_of))]
 fn asptm(msg_type: u8) -> Result<MessageType, Refusal>
     ensures { outcome_of result ≡ from_class_type 4 msg_type }
 {
@@ -146,7 +147,7 @@ fn asptm(msg_type: u8) -> Result<MessageType, Refusal>
 }
 
 // The types of class 7, connectionless messages.
-#[tactic(auto, unfolding(crate::specs::Types::from_class_type))]
+#[tactic(auto, unfolding(crate::specs::Kinds::kind_of))]
 fn connection_less(msg_type: u8) -> Result<MessageType, Refusal>
     ensures { outcome_of result ≡ from_class_type 7 msg_type }
 {
@@ -158,7 +159,7 @@ fn connection_less(msg_type: u8) -> Result<MessageType, Refusal>
 }
 
 // The types of class 8, connection-oriented messages.
-#[tactic(auto, unfolding(crate::specs::Types::from_class_type))]
+#[tactic(auto, unfolding(crate::specs::Kinds::kind_of))]
 fn connection_oriented(msg_type: u8) -> Result<MessageType, Refusal>
     ensures { outcome_of result ≡ from_class_type 8 msg_type }
 {
@@ -179,7 +180,7 @@ fn connection_oriented(msg_type: u8) -> Result<MessageType, Refusal>
 }
 
 // The types of class 9, routing key management.
-#[tactic(auto, unfolding(crate::specs::Types::from_class_type))]
+#[tactic(auto, unfolding(crate::specs::Kinds::kind_of))]
 fn rkm(msg_type: u8) -> Result<MessageType, Refusal>
     ensures { outcome_of result ≡ from_class_type 9 msg_type }
 {
@@ -194,7 +195,7 @@ fn rkm(msg_type: u8) -> Result<MessageType, Refusal>
 
 impl MessageType {
     // The type of a class and a type. 4.
-    #[tactic(auto, unfolding(crate::specs::Types::from_class_type))]
+    #[tactic(auto, unfolding(crate::specs::Kinds::kind_of))]
     pub fn from_class_type(class: u8, msg_type: u8) -> Result<MessageType, Refusal>
         ensures { outcome_of result ≡ from_class_type class msg_type }
     {
@@ -284,6 +285,20 @@ impl MessageType {
             | Self::Coit => MessageClass::ConnectionOriented,
             Self::RegReq | Self::RegRsp | Self::DeregReq | Self::DeregRsp => MessageClass::Rkm,
         }
+    }
+}
+
+impl MessageKind for MessageType {
+    ghost use Rattle.message.specs.Types.{sua_kinds};
+
+    ghost kinds = { sua_kinds };
+
+    fn of_pair(class: u8, msg_type: u8) -> Result<MessageType, Refusal> {
+        Self::from_class_type(class, msg_type)
+    }
+
+    fn pair(self) -> (u8, u8) {
+        self.class_and_type()
     }
 }
 

@@ -11,6 +11,7 @@ use Rattle.parameter.specs.declared.Place.{Place}
 use Rattle.parameter.specs.Table.{tabulated, over, tabulate, rows}
 use Rattle.message.specs.Message.{read_header, message_places}
 use Rattle.message.specs.Listing.{list_message}
+use Rattle.message.proofs.Messages.{list-headed}
 use Rattle.records.specs.Columns.{Columns, room, Stored, stored, tabulate_columns, counting, list_columns, columns, of_rows, of_message_rows}
 
 drop-map : {A B : Type 0} (f : A → B) (n : ℕ) (xs : List A) → drop n (map f xs) ≡ map f (drop n xs)
@@ -50,11 +51,12 @@ rows-columns (accepted ps) held = rw (columns-room held) (on (leb (length ps) (l
 
 -- The same of a message.
 pub message-rows-columns : (xs : List ℕ) (held : List Place) → list_columns xs (columns held) ≡ of_message_rows (list_message xs held)
-unfolding list_message list_columns
+unfolding list_columns
 message-rows-columns xs held =
     ap
     (λ (t : Stored ℕ). stored (after (read_header xs) (λ h. mapped (counting h.message_type) t.answer)) t.columns)
     (rows-columns (message_places xs) held)
+    ∙ sym (ap of_message_rows (list-headed xs held))
 
 -- The three slices tell every record.
 pub columns-rows : (ps : List Place) → rows (columns ps).tags (columns ps).starts (columns ps).lengths ≡ ps

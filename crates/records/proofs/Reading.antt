@@ -17,7 +17,7 @@ use Rattle.parameter.proofs.Reaching.{places_turn, walk_some}
 use Rattle.parameter.proofs.Structure.{places-parameters}
 use Rattle.message.specs.declared.header.CommonHeader.{CommonHeader}
 use Rattle.message.specs.Message.{message, read_header, read_message}
-use Rattle.message.proofs.Listing.{header_within}
+use Rattle.message.proofs.Messages.{header_within, read-headed}
 use Rattle.records.specs.declared.reader.Reader.{Reader}
 use Rattle.records.specs.Reader.{start_of, opened, next_of, given, ahead, moved_to, moved_on, Steps, ends, stops, finds, told}
 
@@ -46,8 +46,7 @@ steps-places r o within (finds _ p next o' e rest) =
 
 -- Whatever stepping a new reader to its end gives, with the header it tells the message that is read, or its refusal.
 pub reader_reads : (bytes : Bor (List ℕ)) (o : Outcome (List Param)) → Steps (opened bytes) o → told (read_header bytes.now) o ≡ read_message bytes.now
-unfolding read_message
-reader_reads bytes o s = on (read_header bytes.now) refl
+reader_reads bytes o s = on (read_header bytes.now) refl ∙ sym (read-headed bytes.now)
   where
     on : (h : Outcome CommonHeader) → read_header bytes.now ≡ h → told h o ≡ after h (λ k. mapped (message k.message_type) (parameters (drop 8 bytes.now)))
     on (refused n vs) e = refl

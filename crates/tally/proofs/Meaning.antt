@@ -22,7 +22,8 @@ use Rattle.parameter.proofs.Records.{value-length}
 use Rattle.address.specs.Address.{Address, address_in}
 use Rattle.message.specs.declared.header.CommonHeader.{CommonHeader}
 use Rattle.message.specs.Message.{Message, message, read_header, read_message}
-use Rattle.message.proofs.Messages.{message_inv}
+use Rattle.message.proofs.Messages.{message_inv, read-headed}
+use Rattle.form.specs.Family.{meaning_by}
 use Rattle.form.specs.Form.{settled, is_address, is_hop_counter, Part, raw, address, part_in, Meaning, meaning}
 use Rattle.form.proofs.Tags.{address_tags}
 use Rattle.form.proofs.Demand3.{read_back}
@@ -159,10 +160,10 @@ pub record Means (xs : List ℕ) (w : Meaning) : Type 0 where
   pub parts : each (part_in built_in) (map (valued xs) found) ≡ accepted w.parts
 
 pub means : (xs : List ℕ) (w : Meaning) → meaning built_in xs ≡ accepted w → Means xs w
-unfolding meaning read_message
+unfolding meaning_by
 means xs w e =
     let (m, hm, e1) = after_inv (read_message xs) _ e in
-    let (h, hh, e2) = after_inv (read_header xs) _ hm in
+    let (h, hh, e2) = after_inv (read_header xs) _ (sym (read-headed xs) ∙ hm) in
     let (qs, hq, typed) = mapped_inv (message h.message_type) (parameters (drop 8 xs)) e2 in
     let (ps, hp, j) = mapped_inv _ (each (part_in built_in) m.params) e1 in
     let r = message_inv xs m hm in

@@ -16,6 +16,7 @@ use Rattle.parameter.proofs.Reading.{parameters-fit}
 use Rattle.address.specs.Address.{Title, Address}
 use Rattle.message.specs.Message.{read_message}
 use Rattle.message.proofs.Messages.{message_inv}
+use Rattle.form.specs.Family.{meaning_by}
 use Rattle.form.specs.Form.{settled, Part, part_in, Meaning, meaning}
 use Rattle.form.proofs.Demand3.{equal}
 use Rattle.tally.specs.Members.{same, reach, place_of, longest}
@@ -77,7 +78,7 @@ data_small (p ∷ ps) xs fs e =
     first false vs h = h
 
 meaning_small : (xs : List ℕ) (m : Meaning) → Octets xs → meaning built_in xs ≡ accepted m → data_length m.parts ≤ most_value
-unfolding meaning
+unfolding meaning_by
 meaning_small xs m o e =
     let (g, hg, e1) = after_inv (read_message xs) _ e in
     let (ps, hp, j) = mapped_inv _ (each (part_in built_in) g.params) e1 in

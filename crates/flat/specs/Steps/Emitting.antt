@@ -1,6 +1,6 @@
 -- Octets stored one after the other, where the slice has places for them.
-use Rattle.std.specs.Prelude.{ℕ, ◌+◌, ◌%◌, ◌≤◌, ◌≡◌, List, [], ◌∷◌, ◌++◌, map, length, get_or, take}
-use Rattle.bcd.specs.Outcome.{Outcome, accepted, refused, after, accepted_or, each, bounded, fit64}
+use Rattle.std.specs.Prelude.{ℕ, ◌+◌, ◌*◌, ◌%◌, ◌≤◌, ◌≡◌, List, [], ◌∷◌, ◌++◌, map, length, get_or, take}
+use Rattle.bcd.specs.Outcome.{Outcome, accepted, refused, after, accepted_or, each, bounded, fit64, most}
 use Rattle.bcd.specs.Digits.{built_in}
 use Rattle.parameter.specs.declared.Place.{Place}
 use Rattle.parameter.specs.Parameter.{two, four, two_at}
@@ -10,7 +10,7 @@ use Rattle.address.specs.declared.parts.Parts.{Parts}
 use Rattle.address.specs.Parts.{kept_title, kept_code, kept_sub}
 use Rattle.address.specs.Listing.{other_places}
 use Rattle.flat.specs.declared.writer.Writer.{Writer}
-use Rattle.flat.specs.Account.{places_octets, marked, title_fields, param_account}
+use Rattle.flat.specs.Account.{places_octets, marked, title_fields}
 use Rattle.message.specs.Accessors.{moved}
 
 -- A writer before and after octets were stored: it holds the same slice, its position stands behind them, or is the largest
@@ -42,10 +42,14 @@ parts_fields base v s =
     ++ others_fields base v s))))
 
 -- All parameters, from the seventh octet on, and how many they are. 12 first.
-abbrev pub accounts : List ℕ → Outcome (List ℕ)
-accounts xs = after (bounded xs (places xs 8)) (each (param_account built_in xs))
+abbrev pub accounts : (param : List ℕ → Place → Outcome (List ℕ)) → List ℕ → Outcome (List ℕ)
+accounts param xs = after (bounded xs (places xs 8)) (each (param xs))
 
-pub record Accounted (xs : List ℕ) (a : Writer) (answer : Outcome ℕ) (b : Writer) : Type 0 where
+-- No account of a parameter is longer.
+abbrev pub Small : (param : List ℕ → Place → Outcome (List ℕ)) → List ℕ → Type 0
+Small param xs = length xs ≤ most → (p : Place) (os : List ℕ) → param xs p ≡ accepted os → length os ≤ 13 * most
+
+pub record Accounted (param : List ℕ → Place → Outcome (List ℕ)) (xs : List ℕ) (a : Writer) (answer : Outcome ℕ) (b : Writer) : Type 0 where
   pub lent : b.out.ghost_name ≡ a.out.ghost_name
-  pub tried : Tried a (accounts xs) answer b
+  pub tried : Tried a (accounts param xs) answer b
   pub count : (n : ℕ) (ps : List Place) → answer ≡ accepted n → bounded xs (places xs 8) ≡ accepted ps → n ≡ length ps

@@ -5,7 +5,8 @@ use Rattle.bcd.proofs.Outcomes.{never, bounded-within}
 use Rattle.parameter.specs.Walk.{places}
 use Rattle.parameter.proofs.Reaching.{walk_found, walk_refused}
 use Rattle.address.proofs.Others.{count_small}
-use Rattle.flat.proofs.Emission.{writes_more, four_bytes}
+use Rattle.message.proofs.Headers.{four_bytes}
+use Rattle.flat.proofs.Emission.{writes_more}
 use Rattle.flat.proofs.Accounting.{whole, others_none}
 use Rattle.flat.proofs.OtherPlaces.{listing_start, listing_more, listing_done, other_there, other_none}
 use Rattle.flat.proofs.writer.Writer.others.Goals as goal

@@ -4,4 +4,4 @@ use Rattle.flat.proofs.Going.{Going}
 use Rattle.flat.proofs.writer.Writer.params.Given as goal
 
 abbrev pub invariant-loop-place : goal.invariant-loop-place
-invariant-loop-place l = Going l.input l.initial.self l.n l.place-iterator.bytes.now l.place-iterator.at (outcome_of l.told) l.self
+invariant-loop-place g l = Going g.A.Accounts.told l.input l.initial.self l.n l.place-iterator.bytes.now l.place-iterator.at (outcome_of l.told) l.self

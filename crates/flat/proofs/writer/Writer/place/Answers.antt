@@ -1,7 +1,8 @@
 -- `flat::writer::Writer::place` meets its contract.
 use mathlib.Core.Path.{◌∙◌}
 use native.Mathlib.Omega.{arith}
-use Rattle.flat.proofs.Emission.{writes_more, two_bytes, four_bytes}
+use Rattle.message.proofs.Headers.{four_bytes}
+use Rattle.flat.proofs.Emission.{writes_more, two_bytes}
 use Rattle.flat.proofs.writer.Writer.place.Goals as goal
 
 pub returns : goal.returns

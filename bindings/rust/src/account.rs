@@ -1,27 +1,43 @@
-//! The account of a message, read as parameters and addresses. No octets are copied: what is handed
-//! out lies in the message and in the account.
+//! The account of a message of either family, read as parameters. No octets are copied: what is
+//! handed out lies in the message and in the account.
 
 use std::fmt;
+use std::marker::PhantomData;
 
-/// The tag of a Source Address parameter.
-pub const SOURCE_ADDRESS: u16 = 0x0102;
+/// A family of messages, as the accounts of its messages are read.
+pub trait Family<'a>: Copy {
+    /// A parameter of the family.
+    type Parameter: fmt::Debug;
 
-/// The tag of a Destination Address parameter.
-pub const DESTINATION_ADDRESS: u16 = 0x0103;
+    /// The parameter that stands next in the account of the message `input`.
+    fn parameter(behind: &mut Rest<'a>, input: &'a [u8]) -> Option<Self::Parameter>;
+}
+
+/// The family of SUA (RFC 3868).
+#[derive(Debug, Clone, Copy)]
+pub struct Sua;
+
+/// The family of M3UA (RFC 4666).
+#[derive(Debug, Clone, Copy)]
+pub struct M3ua;
 
 /// A message as it was read: its class and type, and its parameters in wire order.
+///
+/// `F` is the family of messages, SUA where none is named; [`m3ua::Account`](crate::m3ua::Account)
+/// is that of M3UA.
 #[derive(Clone, Copy)]
-pub struct Account<'a> {
+pub struct Account<'a, F = Sua> {
     input: &'a [u8],
     class: u8,
     msg_type: u8,
     count: u32,
     behind: Rest<'a>,
+    family: PhantomData<F>,
 }
 
-impl<'a> Account<'a> {
+impl<'a, F> Account<'a, F> {
     /// The account in these octets, of the message `input`.
-    pub(crate) fn of(input: &'a [u8], octets: &'a [u8]) -> Account<'a> {
+    pub(crate) fn of(input: &'a [u8], octets: &'a [u8]) -> Account<'a, F> {
         let mut behind = Rest(octets);
         Account {
             input,
@@ -29,6 +45,7 @@ impl<'a> Account<'a> {
             msg_type: behind.one().unwrap_or_default(),
             count: behind.four().unwrap_or_default(),
             behind,
+            family: PhantomData,
         }
     }
 
@@ -53,16 +70,17 @@ impl<'a> Account<'a> {
     }
 
     /// The parameters in wire order.
-    pub fn parameters(&self) -> Parameters<'a> {
+    pub fn parameters(&self) -> Parameters<'a, F> {
         Parameters {
             input: self.input,
             behind: self.behind,
             left: self.len(),
+            family: PhantomData,
         }
     }
 }
 
-impl fmt::Debug for Account<'_> {
+impl<'a, F: Family<'a>> fmt::Debug for Account<'a, F> {
     fn fmt(&self, f: &mut fmt::Formatter<'_>) -> fmt::Result {
         f.debug_struct("Account")
             .field("message_class", &self.class)
@@ -72,101 +90,51 @@ impl fmt::Debug for Account<'_> {
     }
 }
 
-/// A message with the account of it, which it owns.
+/// A message with the account of it, which it owns. `F` is its family, as in [`Account`].
 #[derive(Clone)]
-pub struct Reading<'a> {
+pub struct Reading<'a, F = Sua> {
     input: &'a [u8],
     octets: Vec<u8>,
+    family: PhantomData<F>,
 }
 
-impl<'a> Reading<'a> {
+impl<'a, F> Reading<'a, F> {
     /// The reading of `input` whose account is in these octets.
-    pub(crate) fn of(input: &'a [u8], octets: Vec<u8>) -> Reading<'a> {
-        Reading { input, octets }
+    pub(crate) fn of(input: &'a [u8], octets: Vec<u8>) -> Reading<'a, F> {
+        Reading {
+            input,
+            octets,
+            family: PhantomData,
+        }
     }
 
     /// What was read.
-    pub fn account(&self) -> Account<'_> {
+    pub fn account(&self) -> Account<'_, F> {
         Account::of(self.input, &self.octets)
     }
 }
 
-impl fmt::Debug for Reading<'_> {
+impl<F: for<'b> Family<'b>> fmt::Debug for Reading<'_, F> {
     fn fmt(&self, f: &mut fmt::Formatter<'_>) -> fmt::Result {
         f.debug_tuple("Reading").field(&self.account()).finish()
     }
 }
 
-/// A parameter of a message.
-#[derive(Debug, Clone, PartialEq, Eq)]
-pub struct Parameter<'a> {
-    /// Its tag.
-    pub tag: u16,
-    /// Its value, as it stands in the message.
-    pub value: &'a [u8],
-    /// The value read as an address: of a Source or Destination Address, and of no other parameter.
-    pub address: Option<Address<'a>>,
-}
-
-/// An address. The include bits do not depend on which parts are present.
-#[derive(Debug, Clone, PartialEq, Eq)]
-pub struct Address<'a> {
-    /// The routing indicator, 0 to 4.
-    pub routing_indicator: u16,
-    /// Whether the address indicator includes the global title.
-    pub include_gt: bool,
-    /// Whether the address indicator includes the point code.
-    pub include_pc: bool,
-    /// Whether the address indicator includes the SSN.
-    pub include_ssn: bool,
-    /// The last global title.
-    pub global_title: Option<GlobalTitle<'a>>,
-    /// The last point code.
-    pub point_code: Option<u32>,
-    /// The last subsystem number.
-    pub ssn: Option<u8>,
-    /// The sub-parameters with other tags, in order.
-    pub others: Others<'a>,
-}
-
-/// A global title.
-#[derive(Debug, Clone, Copy, PartialEq, Eq, Hash)]
-pub struct GlobalTitle<'a> {
-    /// The global title indicator.
-    pub gti: u8,
-    /// The translation type.
-    pub translation_type: u8,
-    /// The numbering plan.
-    pub numbering_plan: u8,
-    /// The nature of address.
-    pub nature_of_address: u8,
-    /// The digits: `0` to `9`, `*`, `#`, `a` to `c`, and `?` for a half octet that is no digit.
-    pub digits: &'a str,
-}
-
-/// A sub-parameter of an address that is no global title, point code or SSN.
-#[derive(Debug, Clone, Copy, PartialEq, Eq, Hash)]
-pub struct Other<'a> {
-    /// Its tag.
-    pub tag: u16,
-    /// Its value, as it stands in the message.
-    pub value: &'a [u8],
-}
-
-/// The parameters of a message, in wire order.
+/// The parameters of a message, in wire order. `F` is its family, as in [`Account`].
 #[derive(Clone)]
-pub struct Parameters<'a> {
+pub struct Parameters<'a, F = Sua> {
     input: &'a [u8],
     behind: Rest<'a>,
     left: usize,
+    family: PhantomData<F>,
 }
 
-impl<'a> Iterator for Parameters<'a> {
-    type Item = Parameter<'a>;
+impl<'a, F: Family<'a>> Iterator for Parameters<'a, F> {
+    type Item = F::Parameter;
 
-    fn next(&mut self) -> Option<Parameter<'a>> {
+    fn next(&mut self) -> Option<F::Parameter> {
         let left = self.left.checked_sub(1)?;
-        let read = self.behind.parameter(self.input);
+        let read = F::parameter(&mut self.behind, self.input);
         // As many parameters as the account tells are in it; if one were not, this is the end.
         self.left = if read.is_some() { left } else { 0 };
         read
@@ -177,52 +145,11 @@ impl<'a> Iterator for Parameters<'a> {
     }
 }
 
-impl ExactSizeIterator for Parameters<'_> {}
+impl<'a, F: Family<'a>> ExactSizeIterator for Parameters<'a, F> {}
 
-impl std::iter::FusedIterator for Parameters<'_> {}
+impl<'a, F: Family<'a>> std::iter::FusedIterator for Parameters<'a, F> {}
 
-impl fmt::Debug for Parameters<'_> {
-    fn fmt(&self, f: &mut fmt::Formatter<'_>) -> fmt::Result {
-        f.debug_list().entries(self.clone()).finish()
-    }
-}
-
-/// The octets that a tag, a start and a length take in an account.
-const PLACE: usize = 10;
-
-/// The sub-parameters of an address with other tags, in order. Two are equal where they hand out
-/// the same.
-#[derive(Clone)]
-pub struct Others<'a> {
-    input: &'a [u8],
-    places: Rest<'a>,
-}
-
-impl<'a> Iterator for Others<'a> {
-    type Item = Other<'a>;
-
-    fn next(&mut self) -> Option<Other<'a>> {
-        let (tag, value) = self.places.place(self.input)?;
-        Some(Other { tag, value })
-    }
-
-    fn size_hint(&self) -> (usize, Option<usize>) {
-        let left = self.places.0.len() / PLACE;
-        (left, Some(left))
-    }
-}
-
-impl ExactSizeIterator for Others<'_> {}
-
-impl PartialEq for Others<'_> {
-    fn eq(&self, other: &Self) -> bool {
-        Iterator::eq(self.clone(), other.clone())
-    }
-}
-
-impl Eq for Others<'_> {}
-
-impl fmt::Debug for Others<'_> {
+impl<'a, F: Family<'a>> fmt::Debug for Parameters<'a, F> {
     fn fmt(&self, f: &mut fmt::Formatter<'_>) -> fmt::Result {
         f.debug_list().entries(self.clone()).finish()
     }
@@ -231,145 +158,39 @@ impl fmt::Debug for Others<'_> {
 /// The octets of an account that are not read yet. Each function reads one item, or answers `None`
 /// where the octets do not hold it.
 #[derive(Clone, Copy)]
-struct Rest<'a>(&'a [u8]);
+pub struct Rest<'a>(pub(crate) &'a [u8]);
 
 impl<'a> Rest<'a> {
-    fn octets(&mut self, n: usize) -> Option<&'a [u8]> {
+    pub(crate) fn octets(&mut self, n: usize) -> Option<&'a [u8]> {
         let taken = self.0.get(..n)?;
         self.0 = self.0.get(n..)?;
         Some(taken)
     }
 
-    fn one(&mut self) -> Option<u8> {
+    pub(crate) fn one(&mut self) -> Option<u8> {
         let octets: [u8; 1] = self.octets(1)?.try_into().ok()?;
         Some(u8::from_be_bytes(octets))
     }
 
-    fn two(&mut self) -> Option<u16> {
+    pub(crate) fn two(&mut self) -> Option<u16> {
         let octets: [u8; 2] = self.octets(2)?.try_into().ok()?;
         Some(u16::from_be_bytes(octets))
     }
 
-    fn four(&mut self) -> Option<u32> {
+    pub(crate) fn four(&mut self) -> Option<u32> {
         let octets: [u8; 4] = self.octets(4)?.try_into().ok()?;
         Some(u32::from_be_bytes(octets))
     }
 
-    /// A tag, and the value in `input` whose start and length follow it.
-    fn place(&mut self, input: &'a [u8]) -> Option<(u16, &'a [u8])> {
-        let tag = self.two()?;
+    /// The octets of `input` whose start and length stand next.
+    pub(crate) fn part(&mut self, input: &'a [u8]) -> Option<&'a [u8]> {
         let start = self.four()? as usize;
         let length = self.four()? as usize;
-        Some((tag, input.get(start..start.checked_add(length)?)?))
+        input.get(start..start.checked_add(length)?)
     }
 
-    fn parameter(&mut self, input: &'a [u8]) -> Option<Parameter<'a>> {
-        let (tag, value) = self.place(input)?;
-        let address = match tag {
-            SOURCE_ADDRESS | DESTINATION_ADDRESS => Some(self.address(input)?),
-            _ => None,
-        };
-        Some(Parameter {
-            tag,
-            value,
-            address,
-        })
-    }
-
-    fn address(&mut self, input: &'a [u8]) -> Option<Address<'a>> {
-        let routing_indicator = self.two()?;
-        let include = self.one()?;
-        let global_title = self.marked(Rest::title)?;
-        let point_code = self.marked(Rest::four)?;
-        let ssn = self.marked(Rest::one)?;
-        let others = self.four()? as usize;
-        Some(Address {
-            routing_indicator,
-            include_gt: include & 4 != 0,
-            include_pc: include & 2 != 0,
-            include_ssn: include & 1 != 0,
-            global_title,
-            point_code,
-            ssn,
-            others: Others {
-                input,
-                places: Rest(self.octets(others.checked_mul(PLACE)?)?),
-            },
-        })
-    }
-
-    fn title(&mut self) -> Option<GlobalTitle<'a>> {
-        let gti = self.one()?;
-        let translation_type = self.one()?;
-        let numbering_plan = self.one()?;
-        let nature_of_address = self.one()?;
-        let count = self.one()?;
-        Some(GlobalTitle {
-            gti,
-            translation_type,
-            numbering_plan,
-            nature_of_address,
-            digits: std::str::from_utf8(self.octets(count.into())?).ok()?,
-        })
-    }
-
-    /// 0 and nothing, or another octet and the part that `read` reads.
-    fn marked<T>(&mut self, read: fn(&mut Self) -> Option<T>) -> Option<Option<T>> {
-        match self.one()? {
-            0 => Some(None),
-            _ => Some(Some(read(self)?)),
-        }
-    }
-}
-
-#[cfg(test)]
-mod tests {
-    use super::*;
-
-    /// A message of 20 octets, and an account of it with an address that has every part.
-    const INPUT: [u8; 20] = [7; 20];
-    const OCTETS: &[u8] = &[
-        7, 1, 0, 0, 0, 2, // class, type, two parameters
-        1, 2, 0, 0, 0, 0, 0, 0, 0, 20, // source address
-        0, 1, 5, 1, 4, 0, 1, 4, 3, b'1', b'2', b'3', // indicators and title
-        1, 0, 1, 2, 3, 1, 8, // point code and SSN
-        0, 0, 0, 1, 128, 4, 0, 0, 0, 16, 0, 0, 0, 4, // one other
-        1, 11, 0, 0, 0, 20, 0, 0, 0, 0, // data
-    ];
-
-    fn drained(octets: &[u8]) -> usize {
-        let account = Account::of(&INPUT, octets);
-        let others = account.parameters().flat_map(|p| p.address);
-        account.parameters().count() + others.map(|a| a.others.count()).sum::<usize>()
-    }
-
-    #[test]
-    fn every_field_is_read() {
-        let account = Account::of(&INPUT, OCTETS);
-        assert_eq!((account.message_class(), account.message_type()), (7, 1));
-        let all: Vec<_> = account.parameters().collect();
-        let address = all[0].address.clone().unwrap();
-        assert_eq!(address.routing_indicator, 1);
-        assert!(address.include_gt && !address.include_pc && address.include_ssn);
-        assert_eq!(address.global_title.unwrap().digits, "123");
-        assert_eq!((address.point_code, address.ssn), (Some(0x010203), Some(8)));
-        assert_eq!(address.others.len(), 1);
-        assert_eq!(all[1].value.len(), 0);
-        assert_eq!(drained(OCTETS), 3);
-    }
-
-    /// The library hands out no such accounts.
-    #[test]
-    fn an_account_cut_short_or_spoilt_ends_without_a_panic() {
-        for n in 0..OCTETS.len() {
-            assert!(drained(&OCTETS[..n]) < 3);
-        }
-        for i in 0..OCTETS.len() {
-            for octet in [0, 1, 2, 127, 128, 255] {
-                let mut spoilt = OCTETS.to_vec();
-                spoilt[i] = octet;
-                drained(&spoilt);
-            }
-        }
+    /// A tag, and the value in `input` whose start and length follow it.
+    pub(crate) fn place(&mut self, input: &'a [u8]) -> Option<(u16, &'a [u8])> {
+        Some((self.two()?, self.part(input)?))
     }
 }

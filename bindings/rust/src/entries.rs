@@ -1,4 +1,6 @@
-//! The entries of include/sua.h. Each function answers the report of its entry.
+//! The entries of include/sua.h and include/m3ua.h. Each function answers the report of its entry.
+
+use crate::account::{M3ua, Sua};
 
 /// An entry's number (0 where it accepted) and its values, or the octets written or row gained.
 pub(crate) type Report = [u64; 4];
@@ -60,15 +62,53 @@ extern "C" {
         report: *mut u64,
         report_len: usize,
     ) -> u64;
+    fn m3ua_settle(
+        input: *const u8,
+        input_len: usize,
+        out: *mut u8,
+        out_len: usize,
+        report: *mut u64,
+        report_len: usize,
+    ) -> u64;
+    fn m3ua_read(
+        input: *const u8,
+        input_len: usize,
+        out: *mut u8,
+        out_len: usize,
+        report: *mut u64,
+        report_len: usize,
+    ) -> u64;
+    fn m3ua_encode(
+        message_class: u8,
+        message_type: u8,
+        list: *const u8,
+        list_len: usize,
+        out: *mut u8,
+        out_len: usize,
+        report: *mut u64,
+        report_len: usize,
+    ) -> u64;
 }
 
-pub(crate) fn settle(input: &[u8], out: &mut [u8]) -> Report {
+/// An entry that is lent octets, and writes octets.
+type Converting = unsafe extern "C" fn(*const u8, usize, *mut u8, usize, *mut u64, usize) -> u64;
+
+/// An entry that is lent a class, a type and a list, and writes their message.
+type Encoding =
+    unsafe extern "C" fn(u8, u8, *const u8, usize, *mut u8, usize, *mut u64, usize) -> u64;
+
+/// Calls such an entry.
+///
+/// # Safety
+///
+/// The entry is defined for every contents and every length of its slices, and writes inside `out`
+/// and its report only. Every entry declared above is such a one.
+unsafe fn convert(entry: Converting, input: &[u8], out: &mut [u8]) -> Report {
     let mut report = [0; 4];
     // SAFETY: the pointers and lengths are those of three slices. A slice's pointer is never null,
-    // also where it is empty, and one that is lent for writing overlaps no other. The entry is
-    // defined for every contents and every length, and writes inside `out` and `report` only.
+    // also where it is empty, and one that is lent for writing overlaps no other.
     unsafe {
-        sua_settle(
+        entry(
             input.as_ptr(),
             input.len(),
             out.as_mut_ptr(),
@@ -80,27 +120,16 @@ pub(crate) fn settle(input: &[u8], out: &mut [u8]) -> Report {
     report
 }
 
-pub(crate) fn read(input: &[u8], out: &mut [u8]) -> Report {
+/// Calls such an entry.
+///
+/// # Safety
+///
+/// As for [`convert`], and the two numbers may be any.
+unsafe fn write(entry: Encoding, class: u8, msg_type: u8, list: &[u8], out: &mut [u8]) -> Report {
     let mut report = [0; 4];
-    // SAFETY: as in `settle`.
+    // SAFETY: as in `convert`, with `list` in place of the input.
     unsafe {
-        sua_read(
-            input.as_ptr(),
-            input.len(),
-            out.as_mut_ptr(),
-            out.len(),
-            report.as_mut_ptr(),
-            report.len(),
-        )
-    };
-    report
-}
-
-pub(crate) fn encode(class: u8, msg_type: u8, list: &[u8], out: &mut [u8]) -> Report {
-    let mut report = [0; 4];
-    // SAFETY: as in `settle`, with `list` in place of the input; the two numbers may be any.
-    unsafe {
-        sua_encode(
+        entry(
             class,
             msg_type,
             list.as_ptr(),
@@ -114,6 +143,56 @@ pub(crate) fn encode(class: u8, msg_type: u8, list: &[u8], out: &mut [u8]) -> Re
     report
 }
 
+/// The entries that both families have.
+pub(crate) trait Entries {
+    /// Writes the settled form of `input`.
+    fn settle(input: &[u8], out: &mut [u8]) -> Report;
+
+    /// Writes the account of `input`.
+    fn read(input: &[u8], out: &mut [u8]) -> Report;
+
+    /// Writes the message of a class, a type and a list.
+    fn encode(class: u8, msg_type: u8, list: &[u8], out: &mut [u8]) -> Report;
+}
+
+// SAFETY, of every call below: the entry is declared above.
+
+impl Entries for Sua {
+    fn settle(input: &[u8], out: &mut [u8]) -> Report {
+        unsafe { convert(sua_settle, input, out) }
+    }
+
+    fn read(input: &[u8], out: &mut [u8]) -> Report {
+        unsafe { convert(sua_read, input, out) }
+    }
+
+    fn encode(class: u8, msg_type: u8, list: &[u8], out: &mut [u8]) -> Report {
+        unsafe { write(sua_encode, class, msg_type, list, out) }
+    }
+}
+
+impl Entries for M3ua {
+    fn settle(input: &[u8], out: &mut [u8]) -> Report {
+        unsafe { convert(m3ua_settle, input, out) }
+    }
+
+    fn read(input: &[u8], out: &mut [u8]) -> Report {
+        unsafe { convert(m3ua_read, input, out) }
+    }
+
+    fn encode(class: u8, msg_type: u8, list: &[u8], out: &mut [u8]) -> Report {
+        unsafe { write(m3ua_encode, class, msg_type, list, out) }
+    }
+}
+
+pub(crate) fn to_sccp(value: &[u8], out: &mut [u8]) -> Report {
+    unsafe { convert(sua_to_sccp, value, out) }
+}
+
+pub(crate) fn from_sccp(octets: &[u8], out: &mut [u8]) -> Report {
+    unsafe { convert(sua_from_sccp, octets, out) }
+}
+
 pub(crate) fn tally(
     digits: &[u8],
     lengths: &[u8],
@@ -122,7 +201,7 @@ pub(crate) fn tally(
     octets: &mut [u64],
 ) -> Report {
     let mut report = [0; 4];
-    // SAFETY: as in `settle`, with six slices; the entry writes inside `messages`, `octets` and
+    // SAFETY: as in `convert`, with six slices; the entry writes inside `messages`, `octets` and
     // `report` only.
     unsafe {
         sua_tally(
@@ -136,38 +215,6 @@ pub(crate) fn tally(
             messages.len(),
             octets.as_mut_ptr(),
             octets.len(),
-            report.as_mut_ptr(),
-            report.len(),
-        )
-    };
-    report
-}
-
-pub(crate) fn to_sccp(value: &[u8], out: &mut [u8]) -> Report {
-    let mut report = [0; 4];
-    // SAFETY: as in `settle`.
-    unsafe {
-        sua_to_sccp(
-            value.as_ptr(),
-            value.len(),
-            out.as_mut_ptr(),
-            out.len(),
-            report.as_mut_ptr(),
-            report.len(),
-        )
-    };
-    report
-}
-
-pub(crate) fn from_sccp(octets: &[u8], out: &mut [u8]) -> Report {
-    let mut report = [0; 4];
-    // SAFETY: as in `settle`.
-    unsafe {
-        sua_from_sccp(
-            octets.as_ptr(),
-            octets.len(),
-            out.as_mut_ptr(),
-            out.len(),
             report.as_mut_ptr(),
             report.len(),
         )

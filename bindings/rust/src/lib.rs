@@ -1,5 +1,6 @@
 //! SUA (RFC 3868) messages, read, written, settled and tallied by the proved codec of Navrost
-//! (libsua.a), and their addresses to and from SCCP.
+//! (libsua.a), and their addresses to and from SCCP. M3UA (RFC 4666) messages are read, written and
+//! settled by the module [`m3ua`].
 //!
 //! The settled form of a message depends on what it means and on nothing else: the copies of one
 //! text that two gateways sent have the same form, octet for octet.
@@ -46,24 +47,24 @@
 #![deny(unsafe_code)]
 
 mod account;
+mod address;
 #[allow(unsafe_code)]
 mod entries;
+mod family;
+pub mod m3ua;
 mod refusal;
 mod sccp;
 mod tally;
 
-pub use account::{
-    Account, Address, GlobalTitle, Other, Others, Parameter, Parameters, Reading,
-    DESTINATION_ADDRESS, SOURCE_ADDRESS,
+pub use account::{Account, Parameters, Reading};
+pub use address::{
+    Address, GlobalTitle, Other, Others, Parameter, DESTINATION_ADDRESS, SOURCE_ADDRESS,
 };
 pub use refusal::{Refusal, Values};
 pub use sccp::{from_sccp, to_sccp};
 pub use tally::{tally, Members, Row, Tally};
 
-use refusal::answer;
-
-/// The most octets that a message may have.
-const MOST: usize = 1_048_576;
+use account::Sua;
 
 /// Writes the settled form of a message, and answers its length.
 ///
@@ -79,26 +80,17 @@ const MOST: usize = 1_048_576;
 /// assert_eq!(out, [1, 0, 3, 1, 0, 0, 0, 8]);
 /// ```
 pub fn settle(input: &[u8], out: &mut [u8]) -> Result<usize, Refusal> {
-    answer(entries::settle(input, out), out.len())
+    family::settle::<Sua>(input, out)
 }
 
 /// The length of a message's settled form. The refusals of [`settle`], 14 apart.
 pub fn settled_length(input: &[u8]) -> Result<usize, Refusal> {
-    // A form has at least eight octets, so an empty output is refused, with the length needed.
-    match settle(input, &mut []) {
-        Err(Refusal::OutputTooSmall(length)) => Ok(usize::try_from(length).unwrap_or(usize::MAX)),
-        other => other,
-    }
+    family::settled_length::<Sua>(input)
 }
 
 /// The settled form of a message. The refusals of [`settle`], 14 apart.
 pub fn settle_vec(input: &[u8]) -> Result<Vec<u8>, Refusal> {
-    // A form is never longer than the message, rounded up to a multiple of 4; a message above
-    // 1,048,576 octets has none.
-    let mut out = vec![0; (input.len().min(MOST) + 3) / 4 * 4];
-    let length = settle(input, &mut out)?;
-    out.truncate(length);
-    Ok(out)
+    family::settle_vec::<Sua>(input)
 }
 
 /// Reads a message with its addresses, and writes an account of it that is then read from there.
@@ -117,19 +109,12 @@ pub fn settle_vec(input: &[u8]) -> Result<Vec<u8>, Refusal> {
 /// # Ok::<(), navrost::Refusal>(())
 /// ```
 pub fn read<'a>(input: &'a [u8], account: &'a mut [u8]) -> Result<Account<'a>, Refusal> {
-    let length = answer(entries::read(input, account), account.len())?;
-    Ok(Account::of(
-        input,
-        account.get(..length).unwrap_or_default(),
-    ))
+    family::read(input, account)
 }
 
 /// Reads a message with its addresses. The refusals of [`read`], 14 apart.
 pub fn read_vec(input: &[u8]) -> Result<Reading<'_>, Refusal> {
-    let mut octets = vec![0; input.len().min(MOST) * 5 / 2];
-    let length = answer(entries::read(input, &mut octets), octets.len())?;
-    octets.truncate(length);
-    Ok(Reading::of(input, octets))
+    family::read_vec(input)
 }
 
 /// Writes the message of a class, a type and a list of parameters, and answers its length.
@@ -139,10 +124,10 @@ pub fn read_vec(input: &[u8]) -> Result<Reading<'_>, Refusal> {
 ///
 /// Refusals in order: 4, 15, 10 in order, 12, 14.
 pub fn encode(class: u8, msg_type: u8, list: &[u8], out: &mut [u8]) -> Result<usize, Refusal> {
-    answer(entries::encode(class, msg_type, list, out), out.len())
+    family::encode::<Sua>(class, msg_type, list, out)
 }
 
-/// Adds a parameter to a list for [`encode`].
+/// Adds a parameter to a list for [`encode`] or [`m3ua::encode`].
 ///
 /// Refuses, as 10, a value of more octets than the list can tell, which are 4,294,967,295, and then
 /// leaves the list as it was. Any other value above 65,531 octets is refused by `encode`.
@@ -180,23 +165,5 @@ pub fn encode_vec(
     msg_type: u8,
     parameters: &[(u16, &[u8])],
 ) -> Result<Vec<u8>, Refusal> {
-    let mut list = Vec::new();
-    for &(tag, value) in parameters {
-        if let Err(refusal) = push_parameter(&mut list, tag, value) {
-            // 4, and 10 of a parameter in front of this one, come first.
-            return Err(match encode(class, msg_type, &list, &mut []) {
-                Err(first) if matches!(first.number(), 4 | 10) => first,
-                _ => refusal,
-            });
-        }
-    }
-    // A message has at most 8 octets more than the list and one more for each parameter.
-    let room = list
-        .len()
-        .saturating_add(parameters.len())
-        .saturating_add(8);
-    let mut out = vec![0; room.min(MOST)];
-    let length = encode(class, msg_type, &list, &mut out)?;
-    out.truncate(length);
-    Ok(out)
+    family::encode_vec::<Sua>(class, msg_type, parameters)
 }

@@ -24,7 +24,7 @@ pub enum Refusal {
     InvalidVersion(u8),
     /// 3: RFC 3868 has no such message class.
     InvalidMessageClass(u8),
-    /// 4: RFC 3868 has no such message type in this class.
+    /// 4: RFC 3868, or RFC 4666 for M3UA, has no such message type in this class.
     InvalidMessageType {
         /// The message class.
         class: u8,
@@ -38,13 +38,14 @@ pub enum Refusal {
         /// The length that it tells.
         length: u16,
     },
-    /// 6: a parameter goes on beyond the octets; or a point code or SSN has under four octets.
+    /// 6: a parameter goes on beyond the octets; or a point code or SSN has under four octets, or a
+    /// Protocol Data of M3UA under twelve.
     ParameterTooShort {
         /// The parameter's tag.
         tag: u16,
-        /// The length that it tells; or 4.
+        /// The length that it tells; or 4, or 12.
         expected: u64,
-        /// The octets from its tag to the end; or those of the point code or SSN.
+        /// The octets from its tag to the end; or those of the point code, SSN or Protocol Data.
         actual: u64,
     },
     /// 7: the message has no parameter with this tag.

@@ -1,41 +1,20 @@
 //! Settled forms: document 01's messages, refusals with their values, and the bounds of lengths.
 
 mod octets;
+mod settling;
 
-use navrost::{read_vec, settle, settle_vec, settled_length, Refusal};
+use navrost::{read_vec, settle, settle_vec, Refusal};
 use octets::{octets, ASP, CLDT, FIRST, FORM, SECOND};
+use settling::SUA;
 
-/// The message of these texts has this form, by each of the calls.
+/// The message of these texts has this form.
 fn gives(message: &[&str], form: &[&str]) {
-    let (message, form) = (octets(message), octets(form));
-    assert_eq!(settle_vec(&message), Ok(form.clone()));
-    assert_eq!(settled_length(&message), Ok(form.len()));
-
-    // What lies past the form stays as it was.
-    let mut out = vec![0xee; form.len() + 3];
-    assert_eq!(settle(&message, &mut out), Ok(form.len()));
-    assert_eq!(out[..form.len()], form);
-    assert_eq!(out[form.len()..], [0xee; 3]);
-
-    let mut out = vec![0xee; form.len()];
-    assert_eq!(settle(&message, &mut out), Ok(form.len()));
-    assert_eq!(out, form);
-
-    // One octet less is refused, and nothing is written.
-    let mut out = vec![0xee; form.len() - 1];
-    let refusal = Refusal::OutputTooSmall(form.len() as u64);
-    assert_eq!(settle(&message, &mut out), Err(refusal));
-    assert!(out.iter().all(|&octet| octet == 0xee));
+    SUA.gives(&octets(message), &octets(form));
 }
 
-/// The message is refused so, by each of the calls, and nothing is written.
+/// The message is refused so.
 fn refuses(message: &[u8], refusal: Refusal, number: u8, values: &[u64]) {
-    assert_eq!((refusal.number(), &*refusal.values()), (number, values));
-    assert_eq!(settle_vec(message), Err(refusal));
-    assert_eq!(settled_length(message), Err(refusal));
-    let mut out = [0xee; 100];
-    assert_eq!(settle(message, &mut out), Err(refusal));
-    assert_eq!(out, [0xee; 100]);
+    SUA.refuses(message, refusal, number, values);
 }
 
 #[test]

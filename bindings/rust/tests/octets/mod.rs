@@ -21,6 +21,19 @@ pub const FORM: &str = "01000701 00000058
     01030024 00010005 80010012 00000004 0c000104 44770009 10320000 80030008 00000006
     010b0006 48690000";
 
+/// The header of a DATA of M3UA; its length is not that of the message.
+pub const DATA: &str = "01000101 00000000";
+
+/// One DATA as two gateways sent it, and its form: a network appearance, a Protocol Data from point
+/// code 4001 to 4002 with the payload `Hello`, and a text.
+pub const FIRST_DATA: &str = "01000101 0000002e
+    02000008 00000007 02100015 00000fa1 00000fa2 03020105 48656c6c 6fffffff 00040006 4869";
+pub const SECOND_DATA: &str = "01ff0101 00000000
+    02000008 00000007 02100015 00000fa1 00000fa2 03020105 48656c6c 6f123456 00040006 4869aabb
+    ffffff";
+pub const FORM_DATA: &str = "01000101 00000030
+    02000008 00000007 02100015 00000fa1 00000fa2 03020105 48656c6c 6f000000 00040006 48690000";
+
 /// The octets of several texts of hexadecimal digits, one after the other.
 pub fn octets(texts: &[&str]) -> Vec<u8> {
     let digits: Vec<u32> = texts

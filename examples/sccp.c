@@ -12,7 +12,6 @@
 #include "sua.h"
 
 static uint8_t input[1048577], out[160]; /* one octet more than is accepted, and the longest address value */
-static const char values[] = {0, 2, 1, 1, 2, 2, 3, 1, 1, 1, 2, 1, 1, 1, 1, 0, 0, 0, 0}; /* how many a refusal has, by number */
 
 int main(int argc, char **argv)
 {
@@ -29,16 +28,7 @@ int main(int argc, char **argv)
             sua_to_sccp(input, n, out, sizeof out, report, 4);
         else
             sua_from_sccp(input, n, out, sizeof out, report, 4);
-        if (report[0] != 0) {
-            refused = 1;
-            printf("refused %d:", (int)report[0]);
-            for (int i = 1; i <= values[report[0]]; i++)
-                printf(" %llu", (unsigned long long)report[i]);
-        } else {
-            for (size_t i = 0; i < report[1]; i++)
-                printf("%02x", out[i]);
-        }
-        putchar('\n');
+        refused |= print_answer(report, out);
     }
     close_output();
     return refused;

@@ -10,7 +10,6 @@
 #include "sua.h"
 
 static uint8_t input[1048577], out[1048576]; /* one octet more than is accepted, and the longest form */
-static const char values[] = {0, 2, 1, 1, 2, 2, 3, 1, 1, 1, 2, 1, 1, 1, 1, 0, 0, 0, 0}; /* how many a refusal has, by number */
 
 int main(void)
 {
@@ -19,16 +18,8 @@ int main(void)
     int refused;
 
     check_input();
-    refused = sua_settle(input, n, out, sizeof out, report, 4) != 0;
-    if (refused) {
-        printf("refused %d:", (int)report[0]);
-        for (int i = 1; i <= values[report[0]]; i++)
-            printf(" %llu", (unsigned long long)report[i]);
-    } else {
-        for (size_t i = 0; i < report[1]; i++)
-            printf("%02x", out[i]);
-    }
-    putchar('\n');
+    sua_settle(input, n, out, sizeof out, report, 4);
+    refused = print_answer(report, out);
     close_output();
     return refused;
 }

@@ -33,6 +33,23 @@ static inline void close_output(void)
     }
 }
 
+/* Prints the octets that an entry wrote in hexadecimal, or the number refused with its values. Tells whether it refused. */
+static inline int print_answer(const uint64_t *report, const uint8_t *out)
+{
+    static const char values[] = {0, 2, 1, 1, 2, 2, 3, 1, 1, 1, 2, 1, 1, 1, 1, 0, 0, 0, 0}; /* how many a refusal has, by number */
+
+    if (report[0] != 0) {
+        printf("refused %d:", (int)report[0]);
+        for (int i = 1; i <= values[report[0]]; i++)
+            printf(" %llu", (unsigned long long)report[i]);
+    } else {
+        for (size_t i = 0; i < report[1]; i++)
+            printf("%02x", out[i]);
+    }
+    putchar('\n');
+    return report[0] != 0;
+}
+
 /* The value of a hexadecimal digit; below 0 where it is none. */
 static inline int half(int c)
 {

@@ -1,5 +1,6 @@
 /*
  * The entries of the SUA codec (crates/entry_c/src/lib.rt) for C. `bin/library` builds the library, target/lib/libsua.a.
+ * M3UA's entries are in m3ua.h.
  *
  * A lent slice is a pointer and the number of its elements. The pointer is never null, and slices of one call do not
  * overlap. Each entry is defined for every contents and every length of its slices.

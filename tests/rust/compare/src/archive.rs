@@ -1,72 +1,19 @@
 //! settle, read and encode through the archive, beside the Rust: answers, reports, octets, and what is left alone.
 
-use crate::calls::report;
 use crate::counters;
+use crate::entries::{Entry, Family};
+use crate::lent::{shown, Lent};
 use crate::messages;
-use crate::oracle::{account, deliver, encode_flat, form, Answer};
+use crate::oracle::{account, form, Answer};
 use crate::random::{Group, Random};
 use std::collections::BTreeMap;
 
-extern "C" {
-    fn sua_settle(input: *const u8, n: usize, out: *mut u8, out_n: usize, report: *mut u64, report_n: usize) -> u64;
-    fn sua_read(input: *const u8, n: usize, out: *mut u8, out_n: usize, report: *mut u64, report_n: usize) -> u64;
-    fn sua_encode(
-        class: u8,
-        msg_type: u8,
-        list: *const u8,
-        n: usize,
-        out: *mut u8,
-        out_n: usize,
-        report: *mut u64,
-        report_n: usize,
-    ) -> u64;
-}
-
-/// An entry, called on a list or a message.
-#[derive(Clone, Copy, Debug)]
-pub enum Entry {
-    Settle,
-    Read,
-    Encode(u8, u8),
-}
-
-impl Entry {
-    pub fn call(self, input: &[u8], out: &mut [u8], report: &mut [u64]) -> u64 {
-        let (i, n, o, on) = (input.as_ptr(), input.len(), out.as_mut_ptr(), out.len());
-        let (r, rn) = (report.as_mut_ptr(), report.len());
-        // SAFETY: each pointer comes from a slice with its length, and the slices do not overlap.
-        unsafe {
-            match self {
-                Entry::Settle => sua_settle(i, n, o, on, r, rn),
-                Entry::Read => sua_read(i, n, o, on, r, rn),
-                Entry::Encode(class, msg_type) => sua_encode(class, msg_type, i, n, o, on, r, rn),
-            }
-        }
-    }
-
-    fn expected(self, input: &[u8]) -> Answer<Vec<u8>> {
-        match self {
-            Entry::Settle => form(input),
-            Entry::Read => account(input),
-            Entry::Encode(class, msg_type) => encode_flat(class, msg_type, input),
-        }
-    }
-
-    fn name(self) -> &'static str {
-        match self {
-            Entry::Settle => "settle",
-            Entry::Read => "read",
-            Entry::Encode(..) => "encode",
-        }
-    }
-
-    /// The refusals that the entry can give.
-    fn refusals(self) -> &'static [u64] {
-        match self {
-            Entry::Settle => &[1, 2, 4, 5, 6, 8, 9, 10, 12, 14],
-            Entry::Read => &[1, 2, 4, 5, 6, 8, 12, 14],
-            Entry::Encode(..) => &[4, 10, 12, 14, 15],
-        }
+/// The refusals that an entry can give.
+fn refusals(entry: Entry) -> &'static [u64] {
+    match entry {
+        Entry::Settle => &[1, 2, 4, 5, 6, 8, 9, 10, 12, 14],
+        Entry::Read => &[1, 2, 4, 5, 6, 8, 12, 14],
+        Entry::Encode(..) => &[4, 10, 12, 14, 15],
     }
 }
 
@@ -90,46 +37,22 @@ fn room(r: &mut Random, needed: usize) -> usize {
 
 /// Calls the entry, which must answer so; None where it does.
 fn differs(r: &mut Random, entry: Entry, input: &[u8], expected: Answer<Vec<u8>>, seen: &mut Seen) -> Option<String> {
-    let needed = expected.as_ref().map_or(64, Vec::len);
-    let fill = r.octet();
-    let mut held = vec![fill; room(r, needed)];
-    let mut out = held.clone();
+    let room = room(r, expected.as_ref().map_or(64, Vec::len));
     if matches!(entry, Entry::Settle) {
-        for kind in counters::kinds(input, &expected, held.len()) {
+        for kind in counters::kinds(input, &expected, room) {
             *seen.counters.entry(kind).or_default() += 1;
         }
     }
-    let answer = deliver(expected, &mut held);
-    let numbers = report(&answer);
-    let mut lent = [77u64; 6];
-    let places = if r.once_in(16) { r.below(6) } else { 4 };
-    let number = entry.call(input, &mut out, &mut lent[..places]);
-    let mut wanted = [77u64; 6];
-    let stored = places.min(4);
-    wanted[..stored].copy_from_slice(&numbers[..stored]);
-    *seen.answers.entry(entry.name()).or_default().entry(numbers[0]).or_default() += 1;
-    if number == numbers[0] && lent == wanted && out == held {
-        return None;
-    }
-    let octets: String = input.iter().take(400).map(|b| format!("{b:02x}")).collect();
-    let shown = |octets: &[u8]| octets.iter().take(400).map(|b| format!("{b:02x}")).collect::<String>();
-    Some(format!(
-        "{entry:?}, {} octets {octets}, room {}\n  the Rust: {numbers:?} {}\n  the port: {number} {lent:?} {}",
-        input.len(),
-        held.len(),
-        shown(&held),
-        shown(&out)
-    ))
+    let lent = Lent::new(r, &expected, room);
+    *seen.answers.entry(entry.name()).or_default().entry(lent.report()[0]).or_default() += 1;
+    let difference = lent.entry(r, |out, report| entry.call(Family::Sua, input, out, report))?;
+    Some(format!("{entry:?}, {} octets {}, {difference}", input.len(), shown(input)))
 }
 
 /// A flat list for `encode`, finished or not; once in so many times with a value that is too long, or too long as a whole.
 pub fn flat(r: &mut Random, large_once_in: usize) -> Vec<u8> {
     let mut out = Vec::new();
-    let mut push = |tag: u16, value: &[u8]| {
-        out.extend(tag.to_be_bytes());
-        out.extend((value.len() as u32).to_be_bytes());
-        out.extend(value);
-    };
+    let mut push = |tag: u16, value: &[u8]| messages::push_flat(&mut out, tag, value);
     if r.once_in(large_once_in) {
         let n = 65_530 + r.below(4);
         push(messages::tag(r), &vec![0x55; n]);
@@ -163,8 +86,9 @@ pub fn compare(count: u64, seed: u64) -> bool {
         let (class, msg_type) = messages::any_pair(&mut r);
         let list = flat(&mut r, 2_000);
         let encode = Entry::Encode(class, msg_type);
-        let mut calls: Vec<(Entry, &[u8], Answer<Vec<u8>>)> =
-            [(Entry::Settle, &input), (Entry::Read, &input), (encode, &list)].map(|(e, i)| (e, &**i, e.expected(i))).into();
+        let mut calls: Vec<(Entry, &[u8], Answer<Vec<u8>>)> = [(Entry::Settle, &input), (Entry::Read, &input), (encode, &list)]
+            .map(|(e, i)| (e, &**i, e.expected(Family::Sua, i)))
+            .into();
         let copy = counters::copy(&mut r, &input);
         if let Some(copy) = &copy {
             // Its form, or its refusal, is the message's.
@@ -187,7 +111,7 @@ pub fn compare(count: u64, seed: u64) -> bool {
         let counts = seen.answers.remove(name).unwrap_or_default();
         let listed: Vec<String> = counts.iter().filter(|(n, _)| **n > 0).map(|(n, c)| format!("{n}: {c}")).collect();
         println!("archive, {name}: {} accepted; refused {}", counts.get(&0).unwrap_or(&0), listed.join(", "));
-        unseen.extend(entry.refusals().iter().filter(|n| !counts.contains_key(n)).map(|n| format!("{name} {n}")));
+        unseen.extend(refusals(entry).iter().filter(|n| !counts.contains_key(n)).map(|n| format!("{name} {n}")));
     }
     if count >= 1_000_000 && !unseen.is_empty() {
         println!("archive: never refused as {}", unseen.join(", "));

@@ -1,8 +1,8 @@
 //! Times of the Rust and of the port in one process: settle, read with addresses, and encode; of the port's tally beside its
 //! settle; and of its addresses to and from SCCP beside the Rust's reading of the address.
 
-use crate::archive::Entry;
-use crate::messages::parameter;
+use crate::entries::{Entry, Family};
+use crate::messages::{parameter, push_flat};
 use crate::oracle::form;
 use crate::random::Random;
 use crate::tally::{call, List, Rows};
@@ -93,19 +93,20 @@ pub fn bench() -> bool {
         let mut out = vec![0u8; 3 * input.len()];
         let mut report = [0u64; 4];
         let octets = input.len();
-        let settled =
-            times(|| form(input).expect("it has a form").len(), || Entry::Settle.call(input, &mut out, &mut report) as usize);
+        let settled = times(
+            || form(input).expect("it has a form").len(),
+            || Entry::Settle.call(Family::Sua, input, &mut out, &mut report) as usize,
+        );
         row(case, "settle", octets, settled);
-        let taken = times(|| read(input), || Entry::Read.call(input, &mut out, &mut report) as usize);
+        let taken = times(|| read(input), || Entry::Read.call(Family::Sua, input, &mut out, &mut report) as usize);
         row(case, "read", octets, taken);
         let message = SuaMessage::decode(input).expect("it is read");
         let mut list = Vec::new();
         for p in &message.parameters {
-            list.extend(p.tag.to_be_bytes());
-            list.extend((p.value.len() as u32).to_be_bytes());
-            list.extend(&p.value);
+            push_flat(&mut list, p.tag, &p.value);
         }
-        let encoded = times(|| message.encode().len(), || Entry::Encode(7, 1).call(&list, &mut out, &mut report) as usize);
+        let encoded =
+            times(|| message.encode().len(), || Entry::Encode(7, 1).call(Family::Sua, &list, &mut out, &mut report) as usize);
         row(case, "encode", octets, encoded);
     }
     tallied(&cases[0].1);
@@ -131,7 +132,7 @@ fn tallied(input: &[u8]) {
         let Rows { mut messages, mut octets } = Rows::none(prefixes.len() + 2);
         let (mut out, mut report, mut other) = (vec![0u8; input.len()], [0u64; 4], [0u64; 4]);
         let [settled, tallied] = times(
-            || Entry::Settle.call(input, &mut out, &mut report) as usize,
+            || Entry::Settle.call(Family::Sua, input, &mut out, &mut report) as usize,
             || call(&list, input, &mut messages, &mut octets, &mut other) as usize,
         );
         assert_eq!(other, if prefixes.is_empty() { [16, 0, 0, 0] } else { [0, prefixes.len() as u64 - 1, 0, 0] });

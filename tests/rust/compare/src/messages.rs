@@ -56,6 +56,13 @@ pub fn parameter(r: &mut Random, tag: u16, value: &[u8], dirty: bool) -> Vec<u8>
     out
 }
 
+/// Adds a parameter to a flat list.
+pub fn push_flat(list: &mut Vec<u8>, tag: u16, value: &[u8]) {
+    list.extend(tag.to_be_bytes());
+    list.extend((value.len() as u32).to_be_bytes());
+    list.extend(value);
+}
+
 /// A title's value. Half octets of 15 are rare enough that most titles can be written again.
 pub fn title(r: &mut Random, dirty: bool) -> Vec<u8> {
     let digits = match r.below(12) {

@@ -26,6 +26,11 @@ pub fn refuse<T>(number: u64, values: &[u64]) -> Answer<T> {
     Err(Refused { number, values: values.to_vec() })
 }
 
+/// The number and the values of a refusal of bindings/rust.
+pub fn refused(r: navrost::Refusal) -> Refused {
+    Refused { number: r.number().into(), values: r.values().to_vec() }
+}
+
 impl From<SuaError> for Refused {
     fn from(e: SuaError) -> Refused {
         let (number, values) = match e {
@@ -210,9 +215,8 @@ pub fn write_message(message_type: MessageType, parameters: Vec<Parameter>) -> A
     Ok(SuaMessage::new(message_type, parameters).encode())
 }
 
-/// The message of a class, a type and a flat list: 4, 15, 10 in order, 12.
-pub fn encode_flat(class: u8, msg_type: u8, list: &[u8]) -> Answer<Vec<u8>> {
-    let message_type = MessageType::from_class_type(class, msg_type)?;
+/// The tags and values of a flat list: 15.
+pub fn flat_list(list: &[u8]) -> Answer<Vec<(u16, &[u8])>> {
     let mut parameters = Vec::new();
     let mut left = list;
     while !left.is_empty() {
@@ -224,9 +228,16 @@ pub fn encode_flat(class: u8, msg_type: u8, list: &[u8]) -> Answer<Vec<u8>> {
         if left.len() - 6 < length {
             return refuse(15, &[]);
         }
-        parameters.push(Parameter::new(tag, left[6..6 + length].to_vec()));
+        parameters.push((tag, &left[6..6 + length]));
         left = &left[6 + length..];
     }
+    Ok(parameters)
+}
+
+/// The message of a class, a type and a flat list: 4, 15, 10 in order, 12.
+pub fn encode_flat(class: u8, msg_type: u8, list: &[u8]) -> Answer<Vec<u8>> {
+    let message_type = MessageType::from_class_type(class, msg_type)?;
+    let parameters = flat_list(list)?.into_iter().map(|(tag, value)| Parameter::new(tag, value.to_vec())).collect();
     write_message(message_type, parameters)
 }
 

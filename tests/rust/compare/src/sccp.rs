@@ -6,8 +6,8 @@ mod made;
 mod parties;
 mod plain;
 
-use crate::calls::report;
-use crate::oracle::{deliver, read_address, Answer, Refused};
+use crate::lent::{how, shown, Lent};
+use crate::oracle::{read_address, refused, Answer};
 use crate::random::{Group, Random};
 use kinds::{Kind, ANSWERS};
 use std::collections::BTreeMap;
@@ -51,7 +51,7 @@ impl Way {
             Way::To => navrost::to_sccp(input, out),
             Way::From => navrost::from_sccp(input, out),
         };
-        answer.map_err(|r| Refused { number: r.number().into(), values: r.values().to_vec() })
+        answer.map_err(refused)
     }
 
     /// What bindings/rust writes into an output that is always long enough.
@@ -68,10 +68,6 @@ impl Way {
             Way::From => plain::from_sccp(input),
         }
     }
-}
-
-fn shown(octets: &[u8]) -> String {
-    octets.iter().take(400).map(|b| format!("{b:02x}")).collect()
 }
 
 /// What was met, and what differed.
@@ -112,40 +108,15 @@ impl Check {
     }
 
     /// A call of the entry and one of bindings/rust, with an output of this length that holds anything: both must answer so.
-    /// What stands behind the octets written, around the output, and behind the report's four numbers must be left alone.
     fn answers(&mut self, r: &mut Random, way: Way, input: &[u8], expected: &Answer<Vec<u8>>, room: usize) {
-        let before = r.octets(room + 2);
-        let mut after = before.clone();
-        let answer = deliver(expected.clone(), &mut after[1..=room]);
-        let numbers = report(&answer);
-        let places = if r.once_in(16) { r.below(6) } else { 4 };
-        let (mut lent, mut wanted) = ([77; 6], [77; 6]);
-        wanted[..places.min(4)].copy_from_slice(&numbers[..places.min(4)]);
-        let mut out = before.clone();
-        let number = way.call(input, &mut out[1..=room], &mut lent[..places]);
+        let lent = Lent::new(r, expected, room);
+        let entry = lent.entry(r, |out, report| way.call(input, out, report));
+        let typed = lent.typed(|out| way.typed(input, out));
         self.calls += 1;
-        self.holds(number == numbers[0] && lent == wanted && out == after, || {
-            let (n, input, after, out) = (input.len(), shown(input), shown(&after), shown(&out));
-            format!(
-                "{way:?}, {n} octets {input}, room {room}\n  \
-                 expected: {numbers:?} {after}\n  \
-                 the port: {number} {lent:?} {out}"
-            )
-        });
-        let mut out = before;
-        let typed = way.typed(input, &mut out[1..=room]);
-        self.holds(typed == answer && out == after, || {
-            let (input, out) = (shown(input), shown(&out));
-            format!("bindings/rust, {way:?} {input}, room {room}: {typed:?} {out} instead of {answer:?}")
-        });
-        let how = match (expected, numbers[0]) {
-            (Ok(octets), 0) if octets.len() == room => "just enough room".into(),
-            (_, 0) => "more room".into(),
-            (Ok(octets), 14) if octets.len() == room + 1 => "14 an octet short".into(),
-            (_, 14) if room == 0 => "14 without room".into(),
-            (_, refused) => refused.to_string(),
-        };
-        self.meet(vec![(ANSWERS, format!("{} {how}", way.name()))]);
+        for difference in [entry, typed].into_iter().flatten() {
+            self.holds(false, || format!("{way:?}, {} octets {}, {difference}", input.len(), shown(input)));
+        }
+        self.meet(vec![(ANSWERS, format!("{} {}", way.name(), how(expected, room)))]);
     }
 
     /// One call, or several where the input converts: with just enough room, more, an octet less, some, and none.

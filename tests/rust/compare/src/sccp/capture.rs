@@ -2,6 +2,7 @@
 //! SUA say.
 
 use super::{made, plain, Way};
+use crate::lent;
 use crate::oracle::read_address;
 use crate::random::{Group, Random};
 use std::io::BufRead;
@@ -165,7 +166,7 @@ pub fn dissected(count: u64, seed: u64) -> bool {
                 if shown != says {
                     differences += 1;
                     if differences <= 5 {
-                        let value = super::shown(value);
+                        let value = lent::shown(value);
                         println!("dissect: message {i}, {party}, {field}: {shown:?} instead of {says:?}: {value}");
                     }
                 }

@@ -1,5 +1,6 @@
-//! The entries settle, read and encode, and what each is expected to write.
+//! The entries that both families of messages have, settle, read and encode, and what each is expected to write.
 
+use crate::m3ua::plain;
 use crate::oracle::{self, Answer};
 
 extern "C" {
@@ -15,12 +16,25 @@ extern "C" {
         report: *mut u64,
         report_n: usize,
     ) -> u64;
+    fn m3ua_settle(input: *const u8, n: usize, out: *mut u8, out_n: usize, report: *mut u64, report_n: usize) -> u64;
+    fn m3ua_read(input: *const u8, n: usize, out: *mut u8, out_n: usize, report: *mut u64, report_n: usize) -> u64;
+    fn m3ua_encode(
+        class: u8,
+        msg_type: u8,
+        list: *const u8,
+        n: usize,
+        out: *mut u8,
+        out_n: usize,
+        report: *mut u64,
+        report_n: usize,
+    ) -> u64;
 }
 
 /// A family of messages.
 #[derive(Clone, Copy, Debug, PartialEq, Eq, PartialOrd, Ord)]
 pub enum Family {
     Sua,
+    M3ua,
 }
 
 /// An entry of a family, called on a message, or on a list with a class and a type.
@@ -41,16 +55,22 @@ impl Entry {
                 (Family::Sua, Entry::Settle) => sua_settle(i, n, o, on, r, rn),
                 (Family::Sua, Entry::Read) => sua_read(i, n, o, on, r, rn),
                 (Family::Sua, Entry::Encode(class, msg_type)) => sua_encode(class, msg_type, i, n, o, on, r, rn),
+                (Family::M3ua, Entry::Settle) => m3ua_settle(i, n, o, on, r, rn),
+                (Family::M3ua, Entry::Read) => m3ua_read(i, n, o, on, r, rn),
+                (Family::M3ua, Entry::Encode(class, msg_type)) => m3ua_encode(class, msg_type, i, n, o, on, r, rn),
             }
         }
     }
 
-    /// What it is expected to write, by the Rust.
+    /// What it is expected to write: of SUA by the Rust, of M3UA by the plain reading.
     pub fn expected(self, family: Family, input: &[u8]) -> Answer<Vec<u8>> {
         match (family, self) {
             (Family::Sua, Entry::Settle) => oracle::form(input),
             (Family::Sua, Entry::Read) => oracle::account(input),
             (Family::Sua, Entry::Encode(class, msg_type)) => oracle::encode_flat(class, msg_type, input),
+            (Family::M3ua, Entry::Settle) => plain::form(input),
+            (Family::M3ua, Entry::Read) => plain::account(input),
+            (Family::M3ua, Entry::Encode(class, msg_type)) => plain::encode_flat(class, msg_type, input),
         }
     }
 

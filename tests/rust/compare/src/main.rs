@@ -9,6 +9,7 @@ mod counters;
 mod entries;
 mod generate;
 mod lent;
+mod m3ua;
 mod messages;
 mod oracle;
 mod random;
@@ -29,6 +30,8 @@ fn main() {
         Some("typed") => typed::compare(number(2), number(3)),
         Some("tally") => tally::compare(number(2), number(3)),
         Some("sccp") => sccp::compare(number(2), number(3)),
+        Some("m3ua") => m3ua::compare(number(2), number(3)),
+        Some("families") => m3ua::families::compare(number(2), number(3)),
         Some("calls") => replay::compare(number(2), number(3)),
         Some("screen") => screen::compare(number(2), number(3)),
         Some("contexts") => contexts::compare(number(2), number(3)),
@@ -40,8 +43,8 @@ fn main() {
         Some("titles") => titles::titles(),
         _ => {
             eprintln!(
-                "compare archive|typed|tally|sccp|calls|screen|contexts|dissected COUNT SEED, capture FILE COUNT SEED, \
-                 rows FILE, record FOLDER, bench or titles"
+                "compare archive|typed|tally|sccp|m3ua|families|calls|screen|contexts|dissected COUNT SEED, \
+                 capture FILE COUNT SEED, rows FILE, record FOLDER, bench or titles"
             );
             false
         }

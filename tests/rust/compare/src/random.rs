@@ -15,6 +15,8 @@ pub enum Group {
     Contexts = 0x8EBC_6AF0_9C88_C6E3,
     Sccp = 0xD6E8_FEB8_6659_FD93,
     Capture = 0xD134_2543_DE82_EF95,
+    M3ua = 0xAF25_1AF3_B0F0_25B5,
+    Families = 0xB564_EF22_EC7A_ECE5,
 }
 
 impl Random {

@@ -1,6 +1,7 @@
 //! M3UA through the entries for C and through bindings/rust, beside a plain reading of RFC 4666's layout: settle, read and encode;
 //! and what holds of each message that is accepted.
 
+pub mod capture;
 pub mod families;
 mod kinds;
 mod lists;

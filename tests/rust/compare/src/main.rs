@@ -12,6 +12,7 @@ mod lent;
 mod m3ua;
 mod messages;
 mod oracle;
+mod pcap;
 mod random;
 mod record;
 mod replay;
@@ -38,13 +39,15 @@ fn main() {
         Some("rows") => rows::compare(&words[2]),
         Some("capture") => sccp::capture::capture(&words[2], number(3), number(4)),
         Some("dissected") => sccp::capture::dissected(number(2), number(3)),
+        Some("m3ua-capture") => m3ua::capture::capture(&words[2], number(3), number(4)),
+        Some("m3ua-dissected") => m3ua::capture::dissected(number(2), number(3)),
         Some("record") => record::record(&words[2]),
         Some("bench") => bench::bench(),
         Some("titles") => titles::titles(),
         _ => {
             eprintln!(
-                "compare archive|typed|tally|sccp|m3ua|families|calls|screen|contexts|dissected COUNT SEED, \
-                 capture FILE COUNT SEED, rows FILE, record FOLDER, bench or titles"
+                "compare archive|typed|tally|sccp|m3ua|families|calls|screen|contexts|dissected|m3ua-dissected COUNT SEED, \
+                 capture|m3ua-capture FILE COUNT SEED, rows FILE, record FOLDER, bench or titles"
             );
             false
         }

@@ -17,6 +17,7 @@ pub enum Group {
     Capture = 0xD134_2543_DE82_EF95,
     M3ua = 0xAF25_1AF3_B0F0_25B5,
     Families = 0xB564_EF22_EC7A_ECE5,
+    M3uaCapture = 0xF7C2_EBC0_8F67_F2B5,
 }
 
 impl Random {

@@ -55,7 +55,7 @@ pub fn tag(r: &mut Random) -> u16 {
 }
 
 /// A Protocol Data's value of 12 octets or more.
-fn protocol_data(r: &mut Random) -> Vec<u8> {
+pub fn protocol_data(r: &mut Random) -> Vec<u8> {
     let more = match r.below(8) {
         0 => 0,
         1 => 1 + r.below(4),
@@ -123,7 +123,7 @@ pub fn short_list(r: &mut Random) -> List {
 }
 
 /// The tags with the values lent.
-fn lent(list: &[(u16, Vec<u8>)]) -> Vec<(u16, &[u8])> {
+pub fn lent(list: &[(u16, Vec<u8>)]) -> Vec<(u16, &[u8])> {
     list.iter().map(|(tag, value)| (*tag, &**value)).collect()
 }
 

@@ -4,6 +4,7 @@
 use super::{made, plain, Way};
 use crate::lent;
 use crate::oracle::read_address;
+use crate::pcap;
 use crate::random::{Group, Random};
 use std::io::BufRead;
 use sua::address::{GlobalTitle, RoutingIndicator, SuaAddress};
@@ -111,33 +112,18 @@ fn udt(called: &[u8], calling: &[u8]) -> Vec<u8> {
 
 /// Writes a capture of so many messages.
 pub fn capture(file: &str, count: u64, seed: u64) -> bool {
-    let head: [u32; 6] = [0xA1B2_C3D4, 0x0004_0002, 0, 0, 65_535, MTP3];
-    let mut out: Vec<u8> = head.iter().flat_map(|n| n.to_le_bytes()).collect();
-    for (i, values) in messages(count, seed).enumerate() {
+    let packets = messages(count, seed).map(|values| {
         let [called, calling] = values.map(|value| Way::To.written(&value).unwrap_or_default());
-        let packet = udt(&called, &calling);
-        let n = packet.len() as u32;
-        out.extend([i as u32, 0, n, n].iter().flat_map(|n| n.to_le_bytes()));
-        out.extend(packet);
-    }
-    match std::fs::write(file, out) {
-        Ok(()) => true,
-        Err(e) => {
-            eprintln!("{file}: {e}");
-            false
-        }
-    }
+        udt(&called, &calling)
+    });
+    pcap::write(file, MTP3, packets)
 }
 
 /// What tshark printed, in the kind of what is expected.
 fn parsed(text: &str, like: &Option<Shown>) -> Option<Shown> {
-    let number = match text.strip_prefix("0x") {
-        Some(digits) => u64::from_str_radix(digits, 16),
-        None => text.parse(),
-    };
-    match (like, number) {
+    match (like, pcap::number(text)) {
         _ if text.is_empty() => None,
-        (Some(Shown::Number(_)), Ok(n)) => Some(Shown::Number(n)),
+        (Some(Shown::Number(_)), Some(n)) => Some(Shown::Number(n)),
         _ => Some(Shown::Text(text.into())),
     }
 }

@@ -1,7 +1,8 @@
-//! Times of the Rust and of the port in one process: settle, read with addresses, and encode; of the port's tally beside its
-//! settle; and of its addresses to and from SCCP beside the Rust's reading of the address.
+//! Times of the Rust and of the port in one process: settle, read with addresses, and encode; of the port's entries for M3UA beside
+//! those for SUA; of its tally beside its settle; and of its addresses to and from SCCP beside the Rust's reading of the address.
 
 use crate::entries::{Entry, Family};
+use crate::m3ua::plain::{walk, DATA, LABEL, PROTOCOL_DATA};
 use crate::messages::{parameter, push_flat};
 use crate::oracle::form;
 use crate::random::Random;
@@ -37,14 +38,40 @@ fn cldt(r: &mut Random) -> Vec<u8> {
     out
 }
 
-/// A message of so many parameters, each with a value of so many octets.
-fn message(r: &mut Random, count: usize, length: usize) -> Vec<u8> {
-    let mut out = vec![1, 0, 7, 1, 0, 0, 0, 0];
+/// A DATA of 256 octets: one Protocol Data with 208 octets of the user's data.
+fn data(r: &mut Random) -> Vec<u8> {
+    let mut out = vec![1, 0, 1, 1, 0, 0, 1, 0];
+    out.extend(parameter(r, 0x0200, &[0, 0, 0, 9], false));
+    out.extend(parameter(r, 0x0006, &[0, 0, 0, 1], false));
+    let value = r.octets(LABEL + 208);
+    out.extend(parameter(r, PROTOCOL_DATA, &value, false));
+    out.extend(parameter(r, 0x0013, &[0, 0, 0, 3], false));
+    assert_eq!(out.len(), 256);
+    out
+}
+
+/// A message of so many parameters with a tag, each with a value of so many octets.
+fn message(r: &mut Random, (class, msg_type): (u8, u8), tag: u16, count: usize, length: usize) -> Vec<u8> {
+    let mut out = vec![1, 0, class, msg_type, 0, 0, 0, 0];
     for _ in 0..count {
         let value = r.octets(length);
-        out.extend(parameter(r, 0x010B, &value, false));
+        out.extend(parameter(r, tag, &value, false));
     }
     out
+}
+
+/// A CLDT of so many Data.
+fn many(r: &mut Random, count: usize, length: usize) -> Vec<u8> {
+    message(r, (7, 1), 0x010B, count, length)
+}
+
+/// The flat list of a message's parameters.
+fn flat(message: &[u8]) -> Vec<u8> {
+    let mut list = Vec::new();
+    for p in walk(&message[8..], 8).0 {
+        push_flat(&mut list, p.tag, p.value);
+    }
+    list
 }
 
 /// The Rust's reading of a message and its addresses.
@@ -83,9 +110,9 @@ pub fn bench() -> bool {
     let mut r = Random::new(1);
     let cases = [
         ("CLDT, two titled addresses, 140 octets of data", cldt(&mut r)),
-        ("1,000 parameters of 4 octets", message(&mut r, 1_000, 4)),
-        ("15 parameters of 65,000 octets", message(&mut r, 15, 65_000)),
-        ("131,000 parameters of 4 octets", message(&mut r, 131_000, 4)),
+        ("1,000 parameters of 4 octets", many(&mut r, 1_000, 4)),
+        ("15 parameters of 65,000 octets", many(&mut r, 15, 65_000)),
+        ("131,000 parameters of 4 octets", many(&mut r, 131_000, 4)),
     ];
     println!("| message | call | octets | Rust, ns | port, ns | ratio | port, ns an octet |");
     println!("|---|---|---:|---:|---:|---:|---:|");
@@ -101,17 +128,50 @@ pub fn bench() -> bool {
         let taken = times(|| read(input), || Entry::Read.call(Family::Sua, input, &mut out, &mut report) as usize);
         row(case, "read", octets, taken);
         let message = SuaMessage::decode(input).expect("it is read");
-        let mut list = Vec::new();
-        for p in &message.parameters {
-            push_flat(&mut list, p.tag, &p.value);
-        }
+        let list = flat(input);
         let encoded =
             times(|| message.encode().len(), || Entry::Encode(7, 1).call(Family::Sua, &list, &mut out, &mut report) as usize);
         row(case, "encode", octets, encoded);
     }
+    families(&mut r, &cases[0].1);
     tallied(&cases[0].1);
     converted(&mut r);
     true
+}
+
+/// A call of an entry that accepts the input, to be done again and again.
+fn again(family: Family, entry: Entry, input: &[u8]) -> impl FnMut() -> usize + '_ {
+    let (mut out, mut report) = (vec![0u8; 3 * input.len()], [0u64; 4]);
+    assert_eq!(entry.call(family, input, &mut out, &mut report), 0);
+    move || entry.call(family, input, &mut out, &mut report) as usize
+}
+
+/// Prints the times of the entries for M3UA beside those for SUA, each on a message of its own family, both of one size.
+fn families(r: &mut Random, cldt: &[u8]) {
+    let one = (cldt.to_vec(), data(r));
+    let mut both = |count, length, tag| (many(r, count, length), message(r, DATA, tag, count, length));
+    let cases = [
+        ("the CLDT, and DATA with one Protocol Data", one),
+        ("1,000 parameters of 4 octets", both(1_000, 4, 0x0004)),
+        ("131,000 parameters of 4 octets", both(131_000, 4, 0x0004)),
+        ("1,000 parameters of 12 octets, M3UA's all Protocol Data", both(1_000, LABEL, PROTOCOL_DATA)),
+        ("65,000 parameters of 12 octets, M3UA's all Protocol Data", both(65_000, LABEL, PROTOCOL_DATA)),
+    ];
+    println!("\n| message of SUA and of M3UA | call | octets | SUA, ns | M3UA, ns | M3UA / SUA | M3UA, ns an octet |");
+    println!("|---|---|---:|---:|---:|---:|---:|");
+    for (case, (sua, m3ua)) in &cases {
+        let octets = sua.len();
+        assert_eq!(octets, m3ua.len());
+        let lists = [flat(sua), flat(m3ua)];
+        for (call, [one, other], [of_sua, of_m3ua]) in [
+            ("settle", [Entry::Settle; 2], [sua, m3ua]),
+            ("read", [Entry::Read; 2], [sua, m3ua]),
+            ("encode", [Entry::Encode(7, 1), Entry::Encode(DATA.0, DATA.1)], [&lists[0], &lists[1]]),
+        ] {
+            let [sua, m3ua] = times(again(Family::Sua, one, of_sua), again(Family::M3ua, other, of_m3ua));
+            println!("| {case} | {call} | {octets} | {sua:.0} | {m3ua:.0} | {:.2} | {:.3} |", m3ua / sua, m3ua / octets as f64);
+        }
+    }
 }
 
 /// Prints the times of tally for the CLDT under several member lists, beside settle. A list of no members is refused at once, so

@@ -20,7 +20,7 @@ const MANY: u64 = 2_000;
 const MALFORMED: &str = "_ws.malformed";
 /// The fields in which a message and its form differ.
 const LEFT_OUT: [&str; 4] = ["m3ua.reserved", "m3ua.message_length", "m3ua.parameter_padding", MALFORMED];
-/// The fields that the plain reading tells, as numbers and as octets.
+/// The fields that the plain reading tells as numbers, and those that it tells as octets.
 const NUMBERS: [&str; 11] = [
     "m3ua.version",
     "m3ua.message_class",
@@ -36,6 +36,11 @@ const NUMBERS: [&str; 11] = [
 ];
 const VALUES: &str = "m3ua.parameter_value";
 const PAYLOADS: &str = "data.data";
+
+/// The fields that the plain reading tells.
+fn told() -> Vec<&'static str> {
+    [&NUMBERS[..], &[VALUES, PAYLOADS]].concat()
+}
 
 /// How the value of a parameter is laid out that tshark knows (RFC 4666, 3.2 to 3.8). Of a value that is shorter than its layout
 /// tshark shows the padding as well: such values are not in the capture.
@@ -273,7 +278,7 @@ pub fn dissected(count: u64, seed: u64) -> bool {
     let names = lines.next().unwrap_or_default();
     let names: Vec<&str> = names.split('\t').collect();
     let mut check = Check::default();
-    for name in NUMBERS.iter().chain(&LEFT_OUT).chain(&[VALUES, PAYLOADS]) {
+    for name in told().iter().chain(&LEFT_OUT) {
         check.holds(names.contains(name), || format!("no field {name}"));
     }
     for octets in messages(count, seed) {
@@ -281,7 +286,9 @@ pub fn dissected(count: u64, seed: u64) -> bool {
         check.pair(&names, &octets, [&two[0], &two[1]]);
     }
     check.differences += lines.count() as u64;
-    let fields = NUMBERS.iter().chain(&[VALUES, PAYLOADS]).map(|name| name.to_string()).collect();
+    let mut fields: Vec<String> = told().into_iter().map(String::from).collect();
+    let others = check.met.keys().filter(|(group, name)| *group == SHOWN && !told().contains(&&**name));
+    fields.extend(others.map(|(_, name)| name.clone()));
     let tags = KNOWN.iter().map(|known| known.0).chain(UNKNOWN).chain([PROTOCOL_DATA]).map(|tag| tag.to_string()).collect();
     let types = PAIRS.iter().map(|(class, msg_type)| format!("{class} {msg_type}")).collect();
     let left_out = LEFT_OUT.map(String::from).to_vec();

@@ -40,6 +40,14 @@ fn from(family: Family) -> &'static str {
     }
 }
 
+/// How the entry differs from what is expected of its family, with just enough room, more, or an octet less.
+fn differs(r: &mut Random, family: Family, entry: Entry, octets: &[u8]) -> Option<String> {
+    let expected = entry.expected(family, octets);
+    let needed = expected.as_ref().map_or(64, Vec::len);
+    let room = r.pick(&[needed, needed, needed + 3, needed - 1]);
+    Lent::new(r, &expected, room).entry(r, |out, report| entry.call(family, octets, out, report))
+}
+
 /// A day of so many messages, 100,000 at least; true where nothing differs, and messages of each family were met that both take,
 /// that one takes, and that none takes.
 pub fn compare(count: u64, seed: u64) -> bool {
@@ -59,12 +67,8 @@ pub fn compare(count: u64, seed: u64) -> bool {
         }
         for turn in turns {
             for (entry, octets) in [(Entry::Settle, &input), (Entry::Read, &input), (Entry::Encode(pair.0, pair.1), &list)] {
-                let expected = entry.expected(turn, octets);
-                let room = expected.as_ref().map_or(64, Vec::len);
-                let difference =
-                    Lent::new(&mut r, &expected, room).entry(&mut r, |out, report| entry.call(turn, octets, out, report));
                 calls += 1;
-                if let Some(difference) = difference {
+                if let Some(difference) = differs(&mut r, turn, entry, octets) {
                     differences += 1;
                     if differences <= 5 {
                         println!("families: message {i} of seed {seed}: {turn:?}, {entry:?}, {}, {difference}", shown(octets));

@@ -16,10 +16,13 @@ const NAMED: u32 = 252;
 /// With so many messages or more, each kind must be met.
 const MANY: u64 = 2_000;
 
+const RESERVED: &str = "m3ua.reserved";
+const LENGTH: &str = "m3ua.message_length";
+const PADDING: &str = "m3ua.parameter_padding";
 /// What tshark shows of trailing octets.
 const MALFORMED: &str = "_ws.malformed";
 /// The fields in which a message and its form differ.
-const LEFT_OUT: [&str; 4] = ["m3ua.reserved", "m3ua.message_length", "m3ua.parameter_padding", MALFORMED];
+const LEFT_OUT: [&str; 4] = [RESERVED, LENGTH, PADDING, MALFORMED];
 /// The fields that the plain reading tells as numbers, and those that it tells as octets.
 const NUMBERS: [&str; 11] = [
     "m3ua.version",
@@ -103,7 +106,7 @@ fn value(r: &mut Random, tag: u16) -> Vec<u8> {
             for tag in *tags {
                 if r.once_in(2) {
                     let value = value(r, *tag);
-                    out.extend(parameter(r, *tag, &value, true));
+                    out.extend(parameter(r, *tag, &value, false));
                 }
             }
             out
@@ -213,6 +216,16 @@ fn parsed(text: &str, like: &Shown) -> Option<Shown> {
     }
 }
 
+/// Whether a field that is left out of the comparison is that of a settled form of so many octets.
+fn is_settled(name: &str, text: &str, octets: usize) -> bool {
+    match name {
+        RESERVED => pcap::number(text) == Some(0),
+        LENGTH => pcap::number(text) == Some(octets as u64),
+        PADDING => text.chars().all(|c| matches!(c, '0' | ',')),
+        _ => text.is_empty(),
+    }
+}
+
 /// What was met, and what differed.
 #[derive(Default)]
 struct Check {
@@ -242,7 +255,7 @@ impl Check {
     /// The lines of a message and of its form, field by field.
     fn pair(&mut self, names: &[&str], octets: &[u8], [of_message, of_form]: [&str; 2]) {
         let message = plain::read(octets).expect("it is accepted");
-        let says = says(&message);
+        let (says, form) = (says(&message), plain::form(octets).map_or(0, |form| form.len()));
         let (of_message, of_form): (Vec<&str>, Vec<&str>) = (of_message.split('\t').collect(), of_form.split('\t').collect());
         self.holds([of_message.len(), of_form.len()] == [names.len(); 2], || format!("other fields of {}", shown(octets)));
         for ((name, one), other) in names.iter().zip(&of_message).zip(&of_form) {
@@ -250,8 +263,7 @@ impl Check {
                 if one != other {
                     self.meet(OTHERWISE, name.to_string());
                 }
-                let right = *name != MALFORMED || other.is_empty();
-                self.holds(right, || format!("a form shown as malformed: {}", shown(octets)));
+                self.holds(is_settled(name, other, form), || format!("{name} of a form: {other}: {}", shown(octets)));
                 continue;
             }
             self.holds(one == other, || format!("{name}: {one} and of its form {other}: {}", shown(octets)));

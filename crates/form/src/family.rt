@@ -74,6 +74,7 @@ pub fn settled_length_in<F: MessageFamily>(family: &F, input: &[u8]) -> Result<u
 }
 
 // Writes the parameters of the form, for which there is room.
+#[inline(never)]
 fn write_params<F: MessageFamily>(
     family: &F,
     input: &[u8],

@@ -15,13 +15,14 @@ use Rattle.bcd.specs.Outcome.{Outcome, accepted, refused, pick, after, mapped, e
 use Rattle.bcd.specs.Digits.{Alphabet}
 use Rattle.bcd.proofs.Outcomes.{le_or_lt}
 use Rattle.parameter.specs.Parameter.{four_in}
-use Rattle.parameter.specs.Walk.{valued}
+use Rattle.parameter.specs.Walk.{valued, places}
 use Rattle.parameter.specs.declared.Place.{Place}
 use Rattle.parameter.proofs.Records.{value-length}
 use Rattle.address.specs.Address.{title_at, title_in, four_octets, Piece, title, code, sub, other, piece_in, later, last}
 use Rattle.address.specs.Parts.{sooner, noted_title, noted_code, noted_ssn, noted_other, noted, note_all}
 use Rattle.address.specs.Steps.Kept.{short_by, short_refusal, judged}
 use Rattle.address.specs.declared.parts.Parts.{Parts}
+use Rattle.parameter.proofs.Walking.{steps_induct}
 
 -- a fact of the three tests of a tag, by the four kinds
 pub kinds :
@@ -46,6 +47,20 @@ kinds P t a b c d = first (eqb t 0x8001) refl
         let f = eqb-true t 0x8001 e in
         rw (ne_eqb t 0x8002 (λ g. omega arith), ne_eqb t 0x8003 (λ g. omega arith)) a
     first false e = second (eqb t 0x8002) refl
+
+-- the same, where the three tags are known not to be 0
+pub kinds-tagged :
+    (P : Bool → Bool → Bool → Type 0) (t : ℕ)
+    → (0 < t → P true false false)
+    → (0 < t → P false true false)
+    → (0 < t → P false false true)
+    → P false false false
+    → P (eqb t 0x8001) (eqb t 0x8002) (eqb t 0x8003)
+kinds-tagged P t a b c d = on (le_or_lt t 0)
+  where
+    on : (t ≤ 0) ⊎ (0 < t) → P (eqb t 0x8001) (eqb t 0x8002) (eqb t 0x8003)
+    on (inl l) = let e : t ≡ 0 = omega arith in rw e d
+    on (inr l) = kinds P t (a l) (b l) (c l) d
 
 -- the least octets that a value has by its tag
 abbrev least : Place → ℕ
@@ -144,6 +159,15 @@ module _ (A : Alphabet) (v : List ℕ) where
 pub map-map : {X Y Z : Type 0} (g : Y → Z) (f : X → Y) (o : Option X) → option_map g (option_map f o) ≡ option_map (λ x. g (f x)) o
 map-map g f None = refl
 map-map g f (Some x) = refl
+
+-- a value stands behind the octets in front of the sub-parameters
+abbrev pub Behind : Place → Type 0
+Behind p = 0 < p.start
+
+pub places_behind : (v : List ℕ) (ps : List Place) → places v 4 ≡ accepted ps → All Behind ps
+unfolding places
+places_behind v ps =
+    steps_induct v (λ at ps. All Behind ps) (λ at. tt) (λ at next p ps f ih. (omega (arith, f.start), ih)) (length v) 4 ps
 
 -- The later of three.
 pub later-later : {X : Type 0} (a b c : Option X) → later a (later b c) ≡ later (later a b) c

@@ -43,7 +43,7 @@ fn length_by(
     digits: Digits,
     tag: u16,
     address: &SuaAddress,
-    others: Records<'_>,
+    others: Records<'_, '_>,
 ) -> Result<usize, Refusal>
     ensures { outcome_of result
         ≡ length_with tag (title_by digits address.now.global_title) address.now others.entry.values.now others.entry.rows.now }
@@ -62,7 +62,11 @@ fn length_by(
 }
 
 // How many octets an address value has. 15, 11, 9, 10 for each other, 10 for the whole, with the tag given.
-pub fn encoded_length(tag: u16, address: &SuaAddress, others: Records<'_>) -> Result<usize, Refusal>
+pub fn encoded_length(
+    tag: u16,
+    address: &SuaAddress,
+    others: Records<'_, '_>,
+) -> Result<usize, Refusal>
     ensures { outcome_of result
         ≡ mapped length
         (encode_address_as tag address.now others.entry.values.now others.entry.rows.now) }
@@ -126,7 +130,7 @@ impl SuaAddress {
     fn write(
         &self,
         tag: u16,
-        others: Records<'_>,
+        others: Records<'_, '_>,
         total: usize,
         out: &mut [u8],
     ) -> Result<usize, Refusal>
@@ -147,7 +151,12 @@ impl SuaAddress {
 
     // Writes an address value; its other sub-parameters are records over a lent slice of values. 15, 11, 9, 10 for each
     // other, 10 for the whole, with the tag given, 14.
-    pub fn encode_as(&self, tag: u16, others: Records<'_>, out: &mut [u8]) -> Result<usize, Refusal>
+    pub fn encode_as(
+        &self,
+        tag: u16,
+        others: Records<'_, '_>,
+        out: &mut [u8],
+    ) -> Result<usize, Refusal>
         ensures { delivered (outcome_of result) out.new
             ≡ deliver
             (encode_address_as tag self.now others.entry.values.now others.entry.rows.now)
@@ -166,7 +175,7 @@ impl SuaAddress {
     }
 
     // Writes an address value alone: its tag is 0.
-    pub fn encode(&self, others: Records<'_>, out: &mut [u8]) -> Result<usize, Refusal>
+    pub fn encode(&self, others: Records<'_, '_>, out: &mut [u8]) -> Result<usize, Refusal>
         ensures { delivered (outcome_of result) out.new
             ≡ deliver
             (encode_address self.now others.entry.values.now others.entry.rows.now)

@@ -1,7 +1,7 @@
 -- What tests say: two that pass, one of every element of a list, one of a number among others, and one that a choice goes by.
 use Prim.Native.Nat.{ℕ, suc, ◌+◌, ◌≤◌, ◌<◌}
-use mathlib.Core.Path.{◌≡◌, refl, sym}
-use mathlib.Core.Bool.{Bool, true, false, ◌&&◌, ◌||◌, cond}
+use mathlib.Core.Path.{◌≡◌, refl, sym, ◌∙◌}
+use mathlib.Core.Bool.{Bool, true, false, ◌&&◌, ◌||◌, cond, or_assoc, or-false}
 use Rattle.std.proofs.lemmas.List.Folds.{list_any-append, list_any_at, list_any_more}
 use mathlib.Core.Logic.{◌↔◌, ◌⊎◌, inl, inr}
 use mathlib.Core.List.{List, [], ◌∷◌, ◌++◌}
@@ -11,6 +11,7 @@ use lib.ListN.{length, get_or, take}
 use borrow.Author.Tests.{eq-eqb, eqb-true, eqb-false, lt-ltb, ltb-true, le-leb, leb-true}
 use Rattle.bcd.specs.Outcome.{Outcome, accepted, pick, All, every, among}
 use Rattle.bcd.proofs.Below.{both}
+use Rattle.std.specs.List.{fold}
 
 -- Two tests that tell the same.
 pub agree : (a b : Bool) → (a ≡ true → b ≡ true) → (b ≡ true → a ≡ true) → a ≡ b
@@ -50,6 +51,11 @@ among-append n = list_any-append (λ m. eqb m n)
 
 pub among_next : (n : ℕ) (ms : List ℕ) (i : ℕ) → i < length ms → among n (take (i + 1) ms) ≡ (among n (take i ms) || eqb (get_or ms i 0) n)
 among_next n ms i h = list_any_more (λ m. eqb m n) ms i 0 h
+
+-- A fold that looks at all numbers, with no branch, tells the same.
+pub fold_among : (n : ℕ) (b : Bool) (ms : List ℕ) → fold (λ b m. b || eqb m n) b ms ≡ (b || among n ms)
+fold_among n b [] = sym (or-false b)
+fold_among n b (m ∷ ms) = fold_among n (b || eqb m n) ms ∙ or_assoc b (eqb m n) (among n ms)
 
 -- A number is among others exactly where it stands at a place of them.
 among-to : (n : ℕ) (ms : List ℕ) → among n ms ≡ true → (k : ℕ) × (k < length ms) × (get_or ms k 0 ≡ n)

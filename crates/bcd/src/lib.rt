@@ -4,7 +4,7 @@
 pub mod error;
 pub mod rewrite;
 
-ghost use Rattle.std.specs.Prelude.{◌≡◌, ◌*◌, ◌≤◌, length, get_or};
+ghost use Rattle.std.specs.Prelude.{◌≡◌, ◌*◌, ◌≤◌, ◌++◌, length, get_or, drop};
 ghost use Rattle.bcd.specs.Outcome.{mapped, delivered, deliver};
 ghost use Rattle.bcd.specs.Answers.{outcome_of};
 ghost use Rattle.bcd.specs.Digits.{halves, built_in, digits_in, read_digits, write_digits};
@@ -121,14 +121,22 @@ pub fn digit_in(bytes: &[u8], i: usize) -> u8
     nibble_to_char(half_in(bytes, i))
 }
 
-// Fills a slice with the first digits.
-fn unpack_digits(bytes: &[u8], out: &mut [u8])
+// Fills a slice with the first digits, which are as many.
+fn fill_digits(bytes: &[u8], out: &mut [u8])
     requires { length out.old ≤ 2 * length bytes.now }
     ensures { out.new ≡ digits_in built_in bytes.now (length out.old) }
 {
     for (i, digit) in out.iter_mut().enumerate() {
         *digit = digit_in(bytes, i);
     }
+}
+
+// Stores the first digits in front of a slice, as many as there are and as it has places for.
+pub fn unpack_digits(bytes: &[u8], out: &mut [u8])
+    ensures { out.new ≡ digits_in built_in bytes.now (length out.old) ++ drop (2 * length bytes.now) out.old }
+{
+    let n = out.len().min(bytes.len().saturating_mul(2));
+    fill_digits(bytes, &mut out[..n]);
 }
 
 // Reads digits: as many as the count says, or as there are; those declared beyond these are absent. 12.
@@ -140,7 +148,7 @@ pub fn decode_gt_digits(bytes: &[u8], num_digits: u8) -> Result<GtDigits, Refusa
     let declared = usize::from(num_digits);
     let count = declared.min(2 * given);
     let mut digits = [0u8; 255];
-    unpack_digits(bytes, &mut digits[..count]);
+    fill_digits(bytes, &mut digits[..count]);
     let absent = declared - count;
     Ok(GtDigits {
         digits,

@@ -5,8 +5,8 @@ use mathlib.Core.Logic.{⊎_elim}
 use mathlib.Core.List.{List, [], ◌∷◌, ◌++◌}
 use native.Mathlib.Omega.{arith}
 use lib.ListN.{length, take, drop, length-append, length-drop}
-use lib.Seq.{take_at}
-use borrow.Author.Tests.{leb-true}
+use lib.Seq.{take_at, take_all, length-take-le}
+use borrow.Author.Tests.{leb-true, lt-leb}
 use lib.Dec.{leb}
 use Rattle.bcd.specs.declared.error.Refusal.{Refusal}
 use Rattle.bcd.specs.Outcome.{Outcome, accepted, refused, Octets, Delivered, delivered, deliver}
@@ -28,6 +28,7 @@ use Rattle.flat.specs.Steps.Emitting.{Writes}
 use Rattle.flat.proofs.Emission.{writes_begun}
 use Rattle.flat.proofs.Lines.{decimal_one, decimal-digits, decimal-short, words-length}
 use Rattle.flat.proofs.Printing.{form_length, refused_length}
+use Rattle.std.specs.Prelude.{Option, None, Some, IfSome}
 
 -- at most five digits below 100,000
 five_digits : (n : ℕ) → n < 100000 → length (decimal n) ≤ 5
@@ -120,6 +121,30 @@ module _ (xs : List ℕ) {a b : Writer} (front : a.at ≡ 0) (wide : most_printe
         let f = written (settled_input xs) n form g s in
         let small = form_small xs o f.octets f.whole in
         line_is (form_text f.octets) (ap line_of f.whole) (form_fits f.octets small) (rw f.front at w)
+
+-- An input has the line of its first 65,537 octets: where there are more, both are refused as 12.
+pub line_cut : (xs : List ℕ) → program_line (take 65537 xs) ≡ program_line xs
+unfolding program_line settled_input
+line_cut xs = ⊎_elim short long (le_or_lt (length xs) most_taken)
+  where
+    short : length xs ≤ most_taken → program_line (take 65537 xs) ≡ program_line xs
+    short h = ap program_line (take_all 65537 xs (omega (arith, h)))
+
+    long : most_taken < length xs → program_line (take 65537 xs) ≡ program_line xs
+    long h =
+        let cut : length (take 65537 xs) ≡ 65537 = length-take-le 65537 xs (omega (arith, h)) in
+        rw (lt-leb (length (take 65537 xs)) most_taken (omega (arith, cut)), lt-leb (length xs) most_taken h)
+
+-- So what is printed of them is printed of the input.
+pub printed_cut :
+    (input : Option (List ℕ)) (xs out held : List ℕ) (n : ℕ)
+    → IfSome input (λ all. xs ≡ take 65537 all)
+    → Printed xs out n held
+    → IfSome input (λ all. Printed all out n held)
+printed_cut None xs out held n e p = tt
+printed_cut (Some all) xs out held n e p =
+    let same : program_line xs ≡ program_line all = ap program_line e ∙ line_cut all in
+    record { count = p.count ∙ ap length same; line = p.line ∙ ap (λ (l : List ℕ). over l out) same }
 
 -- S4 and S5 print `(refused 5)` and `(form 16 (01000301 00000010 00040005 41000000))`.
 abbrev asp : List ℕ

@@ -33,9 +33,10 @@ impl<'a> Writer<'a> {
         requires { place.start + place.length < 2 ^ 32 }
         ensures { Writes self.old (place_octets place) self.new }
     {
-        self.put(&place.tag.to_be_bytes());
-        self.put(&(place.start as u32).to_be_bytes());
-        self.put(&(place.length as u32).to_be_bytes());
+        let [a, b] = place.tag.to_be_bytes();
+        let [c, d, e, f] = (place.start as u32).to_be_bytes();
+        let [g, h, i, j] = (place.length as u32).to_be_bytes();
+        self.put(&[a, b, c, d, e, f, g, h, i, j]);
     }
 
     // Stores the account of all parameters from the seventh octet on, and answers how many they are. 12, 5 or 6 in wire

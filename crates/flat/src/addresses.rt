@@ -1,9 +1,9 @@
 // The account of an SUA message's parameters: places, and addresses by their parts.
-ghost use Rattle.std.specs.Prelude.{◌≡◌, [], ◌∷◌, List, ℕ, ◌+◌, ◌^◌, ◌≤◌, ◌<◌};
+ghost use Rattle.std.specs.Prelude.{◌≡◌, [], ◌∷◌, List, ℕ, ◌+◌, ◌*◌, ◌^◌, ◌≤◌, ◌<◌};
 ghost use lib.ListN.{length};
 ghost use Rattle.bcd.specs.Outcome.{most};
 ghost use Rattle.bcd.specs.Answers.{outcome_of};
-ghost use Rattle.bcd.specs.Digits.{built_in};
+ghost use Rattle.bcd.specs.Digits.{built_in, digits_in};
 ghost use Rattle.address.specs.Address.{title_at};
 ghost use Rattle.address.specs.declared.interpret.TitleValue.{TitleValue};
 ghost use Rattle.flat.specs.Account.{marked, title_fields, param_account};
@@ -14,11 +14,24 @@ use crate::writer::Writer;
 use address::interpret::{Interpreted, TitleValue, interpret};
 use address::rewrite::is_other;
 use bcd::error::Refusal;
+use bcd::unpack_digits;
 use form::is_address;
 use message::types::MessageType;
 use parameter::{Parameters, Place};
 
 impl<'a> Writer<'a> {
+    // Stores the first n digits, where there are places for all; else they are not even made.
+    fn digits(&mut self, bytes: &[u8], n: usize)
+        requires { n ≤ 2 * length bytes.now }
+        ensures { Writes self.old (digits_in built_in bytes.now n) self.new }
+    {
+        let start = self.at;
+        self.at = start.saturating_add(n);
+        if self.at <= self.out.len() {
+            unpack_digits(bytes, &mut self.out[start..self.at]);
+        }
+    }
+
     // Stores a title: 1, the descriptors, the number of digits, and the digits. Without one, 0.
     fn title(&mut self, title: Option<TitleValue<'_>>)
         ensures { Writes self.old
@@ -30,9 +43,7 @@ impl<'a> Writer<'a> {
         let octets = title.octets;
         let n = title.digit_count();
         self.put(&[1, octets[3], octets[5], octets[6], octets[7], n as u8]);
-        for i in 0..n {
-            self.put(&[bcd::digit_in(&octets[8..], i)]);
-        }
+        self.digits(&octets[8..], n);
     }
 
     // Stores 1 and the octets of a part. Without it, 0.

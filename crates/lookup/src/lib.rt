@@ -63,7 +63,7 @@ fn cause_at(values: &[u8], found: Option<Place>) -> Option<SccpCause>
 
 // The first four octets of the first parameter with a tag, as a number. 15.
 #[tactic(auto, unfolding(crate::specs::Accessors::first_read))]
-pub fn first_number(lent: Records<'_>, count: usize, tag: u16) -> Result<Option<u32>, Refusal>
+pub fn first_number(lent: Records<'_, '_>, count: usize, tag: u16) -> Result<Option<u32>, Refusal>
     ensures { outcome_of result ≡ first_read (of_four four_in) tag lent.entry.values.now lent.entry.rows.now count }
 {
     Ok(number_at(lent.values, lent.find_parameter(count, tag)?))
@@ -71,7 +71,7 @@ pub fn first_number(lent: Records<'_>, count: usize, tag: u16) -> Result<Option<
 
 // Their last octet. 15.
 #[tactic(auto, unfolding(crate::specs::Accessors::first_read))]
-pub fn first_octet(lent: Records<'_>, count: usize, tag: u16) -> Result<Option<u8>, Refusal>
+pub fn first_octet(lent: Records<'_, '_>, count: usize, tag: u16) -> Result<Option<u8>, Refusal>
     ensures { outcome_of result ≡ first_read (of_four fourth) tag lent.entry.values.now lent.entry.rows.now count }
 {
     Ok(octet_at(lent.values, lent.find_parameter(count, tag)?))
@@ -79,7 +79,11 @@ pub fn first_octet(lent: Records<'_>, count: usize, tag: u16) -> Result<Option<u
 
 // Their last two octets. 15.
 #[tactic(auto, unfolding(crate::specs::Accessors::first_read))]
-pub fn first_cause(lent: Records<'_>, count: usize, tag: u16) -> Result<Option<SccpCause>, Refusal>
+pub fn first_cause(
+    lent: Records<'_, '_>,
+    count: usize,
+    tag: u16,
+) -> Result<Option<SccpCause>, Refusal>
     ensures { outcome_of result ≡ first_read (of_four cause_in) tag lent.entry.values.now lent.entry.rows.now count }
 {
     Ok(cause_at(lent.values, lent.find_parameter(count, tag)?))
@@ -116,7 +120,7 @@ fn address_at(
 // Reads the first parameter with a tag as an address. 15, 7, then the address's.
 #[tactic(auto, unfolding(crate::specs::Accessors::address_found))]
 pub fn first_address(
-    lent: Records<'_>,
+    lent: Records<'_, '_>,
     count: usize,
     tag: u16,
     others: &mut [Place],

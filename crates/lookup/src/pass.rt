@@ -35,7 +35,7 @@ fn place_of(tag: u16) -> Option<usize>
 
 // The first record with each of the seven tags. 15. The pass goes from the last record to the first, so that an earlier one
 // takes the place of a later one.
-pub(crate) fn first_of(lent: Records<'_>, count: usize) -> Result<[Option<Place>; 7], Refusal>
+pub(crate) fn first_of(lent: Records<'_, '_>, count: usize) -> Result<[Option<Place>; 7], Refusal>
     ensures { outcome_of result ≡ first_of wanted lent.entry.values.now lent.entry.rows.now count }
 {
     let n = lent.values.len();

@@ -41,7 +41,7 @@ fn refused(r: Refusal) -> Screen
 // Reads all handling fields, and each address into a table of its own. 15 in every field; 7 and an address's refusals in
 // that address's alone.
 pub fn handling_fields(
-    lent: Records<'_>,
+    lent: Records<'_, '_>,
     count: usize,
     source_others: &mut [Place],
     destination_others: &mut [Place],

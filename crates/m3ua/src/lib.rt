@@ -47,7 +47,7 @@ impl M3uaMessage {
     }
 
     // Writes the message of a type and a list of records over a lent slice of values. 15, 10 in order, 12, 14.
-    pub fn encode(self, lent: Records<'_>, out: &mut [u8]) -> Result<usize, Refusal>
+    pub fn encode(self, lent: Records<'_, '_>, out: &mut [u8]) -> Result<usize, Refusal>
         ensures { delivered (outcome_of result) out.new
             ≡ deliver
             (after

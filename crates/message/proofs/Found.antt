@@ -27,6 +27,26 @@ first_passes {A} test (y ∷ ys) n vs x e = on (test y) refl e (λ d. first_pass
     on true h e ih = ap test (sym (accepted_inj e)) ∙ h
     on false h e ih = ih e
 
+-- What was found in a list is one of it.
+first-among :
+    {A : Type 0} (test f : A → Bool) (xs : List A) (n : ℕ) (vs : List ℕ) (x : A)
+    → first test xs (refused n vs) ≡ accepted x
+    → every f xs ≡ true
+    → f x ≡ true
+first-among test f [] n vs x e h = absurd (never e)
+first-among {A} test f (y ∷ ys) n vs x e h =
+    let (here, others) = both (f y) (every f ys) h in
+    on (test y) e here (λ d. first-among test f ys n vs x d others)
+  where
+    on :
+        (t : Bool)
+        → pick t (accepted y) (first test ys (refused n vs)) ≡ accepted x
+        → f y ≡ true
+        → (first test ys (refused n vs) ≡ accepted x → f x ≡ true)
+        → f x ≡ true
+    on true e here ih = ap f (sym (accepted_inj e)) ∙ here
+    on false e here ih = ih e
+
 off : (t : Bool) → (t ≡ true → ⊥) → t ≡ false
 off true h = absurd (h refl)
 off false h = refl
@@ -58,6 +78,11 @@ module _ {K : Type 0} (T : Kinds K) where
   kind_pair c t k e =
       let (hc, ht) = both (eqb c (T.pair_of k).0) _ (first_passes (λ k. eqb c (T.pair_of k).0 && eqb t (T.pair_of k).1) T.all _ _ k e) in
       (eqb-true c (T.pair_of k).0 hc, eqb-true t (T.pair_of k).1 ht)
+
+  -- A type that was found passes a test that all types pass.
+  pub kind_passes : (c t : ℕ) (k : K) (f : K → Bool) → kind_of T c t ≡ accepted k → every f T.all ≡ true → f k ≡ true
+  unfolding kind_of
+  kind_passes c t k f e h = first-among (λ k. eqb c (T.pair_of k).0 && eqb t (T.pair_of k).1) f T.all _ _ k e h
 
   -- A pair that no type has is refused, by a property of all types.
   unknown_pair :

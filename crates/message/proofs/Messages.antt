@@ -3,9 +3,9 @@ use Prim.Native.Nat.{ℕ, ◌+◌, ◌≤◌}
 use mathlib.Core.Path.{◌≡◌, refl, ap}
 use mathlib.Core.List.{List, ◌++◌, map}
 use lib.ListN.{length, drop}
-use Rattle.bcd.specs.Outcome.{Outcome, accepted, refused, after, mapped, All, most}
+use Rattle.bcd.specs.Outcome.{Outcome, accepted, refused, after, mapped, All, most, Octets}
 use Rattle.bcd.proofs.Outcomes.{mapped_inv}
-use Rattle.parameter.specs.Parameter.{Param, run_length, Sized, four_in}
+use Rattle.parameter.specs.Parameter.{Param, run_length, Sized, four_in, Fits}
 use Rattle.parameter.specs.Walk.{places, valued, parameters}
 use Rattle.parameter.specs.Table.{Table, tabulate}
 use Rattle.message.specs.declared.types.MessageType.{MessageType}
@@ -14,7 +14,7 @@ use Rattle.message.specs.Types.{sua_kinds}
 use Rattle.message.specs.Framed.{named_by, read_of, places_of}
 use Rattle.message.specs.Message.{header_with, read_header, Message, message, read_message, message_places, message_octets, write_message}
 use Rattle.message.specs.Listing.{Listing, list_of, listed, record_of, list_message}
-use Rattle.message.proofs.Pairs.{pair_of_type}
+use Rattle.message.proofs.Pairs.{pair_of_type, class_octet_lem, type_octet}
 use Rattle.message.proofs.Framing as F
 
 module _ (m : MessageType) (ps : List Param) where
@@ -24,6 +24,9 @@ module _ (m : MessageType) (ps : List Param) where
   -- The message length that is written is the true one, also where other octets follow.
   pub message_declared : (rest : List ℕ) → four_in (drop 4 (message_octets m ps ++ rest)) ≡ length (message_octets m ps)
   message_declared = F.octets_declared sua_kinds m ps
+
+  pub message-octets : All Fits ps → 8 + run_length ps ≤ most → Octets (message_octets m ps)
+  message-octets = F.octets-octets sua_kinds m ps (class_octet_lem m) (type_octet m)
 
   -- From any type and any list within bounds, reading what was written gives that type and that list.
   pub message_round_trip : 8 + run_length ps ≤ most → read_message (message_octets m ps) ≡ accepted (message m ps)

@@ -1,5 +1,5 @@
 -- `from_class_type` and `class_and_type` are inverse, and there are 35 message types.
-use Prim.Native.Nat.{ℕ}
+use Prim.Native.Nat.{ℕ, ◌<◌}
 use mathlib.Core.Path.{◌≡◌, refl}
 use mathlib.Core.List.{[], ◌∷◌, map}
 use Rattle.bcd.specs.Outcome.{accepted}
@@ -7,7 +7,10 @@ use Rattle.message.specs.declared.types.MessageType.{MessageType}
 use Rattle.message.specs.declared.types.MessageType.TheVariants as T
 use Rattle.message.specs.Kinds.{kind_of}
 use Rattle.message.specs.Types.{class_octet, message_classes, class_and_type, class_of, type_of, message_types, the_pairs, sua_kinds, from_class_type, known_pairs}
-use Rattle.message.proofs.Found.{kind_pair, known_few}
+use Rattle.message.proofs.Found.{kind_pair, known_few, kind_passes}
+use native.Mathlib.Omega.{arith}
+use lib.Dec.{ltb}
+use borrow.Author.Tests.{ltb-true}
 
 -- The types in the RFC's order have these pairs, and the classes these octets.
 pub pairs_in_order : map class_and_type message_types ≡ the_pairs
@@ -58,6 +61,13 @@ pair_of_type T.RegReq = refl
 pair_of_type T.RegRsp = refl
 pair_of_type T.DeregReq = refl
 pair_of_type T.DeregRsp = refl
+
+-- The class and the type of each are octets.
+pub class_octet_lem : (m : MessageType) → class_of m < 256
+class_octet_lem m = omega (arith, ltb-true (class_of m) 256 (kind_passes sua_kinds _ _ m (λ m. ltb (class_of m) 256) (pair_of_type m) refl))
+
+pub type_octet : (m : MessageType) → type_of m < 256
+type_octet m = omega (arith, ltb-true (type_of m) 256 (kind_passes sua_kinds _ _ m (λ m. ltb (type_of m) 256) (pair_of_type m) refl))
 
 -- There are 35: one for each known pair among all pairs of octets. Classes above 9 and types above 11 have none, and the
 -- others are counted by computation.

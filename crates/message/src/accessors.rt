@@ -26,7 +26,7 @@ use pieces::point_codes::list_codes;
 
 impl SuaMessage {
     // The routing context. 15.
-    pub fn routing_context(self, lent: Records<'_>) -> Result<Option<u32>, Refusal>
+    pub fn routing_context(self, lent: Records<'_, '_>) -> Result<Option<u32>, Refusal>
         ensures { outcome_of result ≡ routing_context lent.entry.values.now lent.entry.rows.now self.count }
     {
         first_number(lent, self.count, ROUTING_CONTEXT)
@@ -34,49 +34,50 @@ impl SuaMessage {
 
     // Whether every routing context that the first such parameter lists is in a set, whose numbers may stand in any order. No
     // where there is no such parameter, or its value is no positive multiple of four octets. 15.
-    pub fn contexts_in(self, lent: Records<'_>, set: &[u32]) -> Result<bool, Refusal>
+    pub fn contexts_in(self, lent: Records<'_, '_>, set: &[u32]) -> Result<bool, Refusal>
         ensures { outcome_of result ≡ contexts_in lent.entry.values.now lent.entry.rows.now self.count set.now }
     {
         lookup::contexts::contexts_in(lent, self.count, set)
     }
 
     // The protocol class. 15.
-    pub fn protocol_class(self, lent: Records<'_>) -> Result<Option<u8>, Refusal>
+    pub fn protocol_class(self, lent: Records<'_, '_>) -> Result<Option<u8>, Refusal>
         ensures { outcome_of result ≡ protocol_class lent.entry.values.now lent.entry.rows.now self.count }
     {
         first_octet(lent, self.count, PROTOCOL_CLASS)
     }
 
     // The sequence control. 15.
-    pub fn sequence_control(self, lent: Records<'_>) -> Result<Option<u32>, Refusal>
+    pub fn sequence_control(self, lent: Records<'_, '_>) -> Result<Option<u32>, Refusal>
         ensures { outcome_of result ≡ sequence_control lent.entry.values.now lent.entry.rows.now self.count }
     {
         first_number(lent, self.count, SEQUENCE_CONTROL)
     }
 
     // The SS7 hop counter. 15.
-    pub fn ss7_hop_count(self, lent: Records<'_>) -> Result<Option<u8>, Refusal>
+    pub fn ss7_hop_count(self, lent: Records<'_, '_>) -> Result<Option<u8>, Refusal>
         ensures { outcome_of result ≡ ss7_hop_count lent.entry.values.now lent.entry.rows.now self.count }
     {
         first_octet(lent, self.count, SS7_HOP_COUNTER)
     }
 
     // The type and the value of the SCCP cause. 15.
-    pub fn sccp_cause(self, lent: Records<'_>) -> Result<Option<SccpCause>, Refusal>
+    pub fn sccp_cause(self, lent: Records<'_, '_>) -> Result<Option<SccpCause>, Refusal>
         ensures { outcome_of result ≡ sccp_cause lent.entry.values.now lent.entry.rows.now self.count }
     {
         first_cause(lent, self.count, SCCP_CAUSE)
     }
 
     // Where the data stand. 15.
-    pub fn data(self, lent: Records<'_>) -> Result<Option<Place>, Refusal>
+    pub fn data(self, lent: Records<'_, '_>) -> Result<Option<Place>, Refusal>
         ensures { outcome_of result ≡ data_at lent.entry.values.now lent.entry.rows.now self.count }
     {
         lent.find_parameter(self.count, DATA)
     }
 
-    // The data; no octets where there are none, or where a record meets 15.
-    pub fn data_part<'a>(self, lent: Records<'a>) -> &'a [u8]
+    // The data, which live as long as the octets, whatever becomes of the rows; no octets where there are none, or where a record
+    // meets 15.
+    pub fn data_part<'v>(self, lent: Records<'v, '_>) -> &'v [u8]
         ensures { result.now ≡ data_part lent.entry.values.now lent.entry.rows.now self.count }
     {
         match self.data(lent) {
@@ -86,7 +87,11 @@ impl SuaMessage {
     }
 
     // Stores the affected point codes in a lent table; where there is no such parameter, none. 15, 13.
-    pub fn affected_point_codes(self, lent: Records<'_>, out: &mut [u32]) -> Result<usize, Refusal>
+    pub fn affected_point_codes(
+        self,
+        lent: Records<'_, '_>,
+        out: &mut [u32],
+    ) -> Result<usize, Refusal>
         ensures { delivered (outcome_of result) out.new
             ≡ store_codes (affected_point_codes lent.entry.values.now lent.entry.rows.now self.count) out.old }
     {
@@ -99,7 +104,7 @@ impl SuaMessage {
     // Reads the source address; its others are stored at their places in the values. 15, 7, then the address's, then 13.
     pub fn source_address(
         self,
-        lent: Records<'_>,
+        lent: Records<'_, '_>,
         others: &mut [Place],
     ) -> Result<SuaAddress, Refusal>
         ensures { listed (outcome_of result) others.new
@@ -111,7 +116,7 @@ impl SuaMessage {
     // Reads the destination address; its others are stored at their places in the values. 15, 7, then the address's, then 13.
     pub fn destination_address(
         self,
-        lent: Records<'_>,
+        lent: Records<'_, '_>,
         others: &mut [Place],
     ) -> Result<SuaAddress, Refusal>
         ensures { listed (outcome_of result) others.new
@@ -124,7 +129,7 @@ impl SuaMessage {
     // 7 and an address's refusals in that address's alone.
     pub fn screen(
         self,
-        lent: Records<'_>,
+        lent: Records<'_, '_>,
         source_others: &mut [Place],
         destination_others: &mut [Place],
     ) -> Screen

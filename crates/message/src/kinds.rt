@@ -101,7 +101,7 @@ pub fn read_into<K: MessageKind>(bytes: &[u8], rows: &mut [Place]) -> Result<(K,
 pub fn write_from<K: MessageKind>(
     kind: K,
     count: usize,
-    lent: Records<'_>,
+    lent: Records<'_, '_>,
     out: &mut [u8],
 ) -> Result<usize, Refusal>
     ensures { delivered (outcome_of result) out.new

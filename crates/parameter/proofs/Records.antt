@@ -1,5 +1,5 @@
 -- Records of a lent table, and the check that they lie inside the values.
-use Prim.Native.Nat.{ℕ, zero, suc, ◌+◌, ◌≤◌, ◌<◌}
+use Prim.Native.Nat.{ℕ, zero, suc, ◌+◌, ◌≤◌, ◌<◌, min}
 use mathlib.Core.Path.{◌≡◌, refl, sym, ap, ap₂, ◌∙◌}
 use mathlib.Core.Bool.{Bool, true, false, ◌&&◌}
 use denote.Ref.{Bor}
@@ -17,11 +17,32 @@ use Rattle.bcd.proofs.Tests.{cond_is_pick}
 use Rattle.parameter.specs.declared.Place.{Place}
 use Rattle.parameter.specs.Parameter.{Param}
 use Rattle.parameter.specs.Walk.{valued}
-use Rattle.parameter.specs.Table.{Table, record_in, records, first_with, find_param}
+use Rattle.parameter.specs.Table.{Table, record_in, records, first_with, find_param, rows}
 
 -- a place that does not matter, beyond the end of a list
 abbrev pub nowhere : Place
 nowhere = record { tag = 0; start = 0; length = 0 }
+
+-- of three lists: a row by its place, and how many rows there are
+pub rows_at :
+    (ts ss ls : List ℕ) (i : ℕ) (d : Place)
+    → i < length ts
+    → i < length ss
+    → i < length ls
+    → get_or (rows ts ss ls) i d ≡ record { tag = get_or ts i 0; start = get_or ss i 0; length = get_or ls i 0 }
+unfolding rows
+rows_at (t ∷ ts) (s ∷ ss) (l ∷ ls) zero d a b c = refl
+rows_at (t ∷ ts) (s ∷ ss) (l ∷ ls) (suc i) d a b c = rows_at ts ss ls i d (omega arith) (omega arith) (omega arith)
+rows_at [] ss ls i d a b c = absurd (omega arith)
+rows_at (t ∷ ts) [] ls i d a b c = absurd (omega arith)
+rows_at (t ∷ ts) (s ∷ ss) [] i d a b c = absurd (omega arith)
+
+pub rows-length : (ts ss ls : List ℕ) → length (rows ts ss ls) ≡ min (length ts) (min (length ss) (length ls))
+unfolding rows
+rows-length (t ∷ ts) (s ∷ ss) (l ∷ ls) = omega (arith, rows-length ts ss ls)
+rows-length [] ss ls = omega arith
+rows-length (t ∷ ts) [] ls = omega arith
+rows-length (t ∷ ts) (s ∷ ss) [] = omega arith
 
 -- a record that lies inside the values, and one that does not
 pub record_inside : (values : List ℕ) (p : Place) → p.start + p.length ≤ length values → record_in values p ≡ accepted (valued values p ∷ [])

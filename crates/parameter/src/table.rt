@@ -57,14 +57,14 @@ pub fn decode_parameters(bytes: &[u8], rows: &mut [Place]) -> Result<usize, Refu
 
 // Records of a lent table, over the octets that hold their values.
 #[derive(Clone, Copy)]
-pub struct Records<'a> {
-    pub values: &'a [u8],
-    pub rows: &'a [Place],
+pub struct Records<'v, 'r> {
+    pub values: &'v [u8],
+    pub rows: &'r [Place],
 }
 
-impl<'a> Records<'a> {
+impl<'v, 'r> Records<'v, 'r> {
     // The records of a table over these octets.
-    pub fn new(values: &'a [u8], rows: &'a [Place]) -> Records<'a>
+    pub fn new(values: &'v [u8], rows: &'r [Place]) -> Records<'v, 'r>
         ensures values { result.values.now ≡ values.now }
         ensures rows { result.rows.now ≡ rows.now }
     {

@@ -6,7 +6,7 @@ use native.Mathlib.Omega.{arith}
 use borrow.Author.Tests.{le-leb}
 use lib.ListN.{length, length-append}
 use Rattle.std.specs.Prelude.{Option, None, Some}
-use Rattle.bcd.specs.Outcome.{Outcome, accepted, refused, after, mapped, most, fit64}
+use Rattle.bcd.specs.Outcome.{Outcome, accepted, refused, after, mapped, most, fit64, each}
 use Rattle.bcd.proofs.Outcomes.{accepted_inj, after_inv, each_inv}
 use Rattle.parameter.specs.Parameter.{Param, param, encode_param, writable}
 use Rattle.parameter.proofs.Encoding.{wire_encode, wire_inv}
@@ -20,6 +20,13 @@ param_most : (p : Param) (os : List ℕ) → encode_param p ≡ accepted os → 
 param_most p os e =
     let (small, n) = wire_inv p.tag (length p.value) (length os) (sym (ap (mapped length) e) ∙ wire_encode p) in
     omega (arith, small, n)
+
+-- Parameters in a row take at most 65,536 octets each.
+pub written_small : (ps : List Param) (os : List ℕ) → each encode_param ps ≡ accepted os → length os ≤ 65536 * length ps
+written_small [] os e = rw (← accepted_inj e) (omega arith)
+written_small (p ∷ ps) os e =
+    let (us, vs, hu, hv, j) = each_inv encode_param p ps os e in
+    omega (arith, param_most p us hu, written_small ps vs hv, ap length j, length-append us vs)
 
 part_most : (part : Part) (os : List ℕ) → part_written part ≡ accepted os → length os ≤ 65536
 part_most (P.Number tag n) os e = param_most (number tag n) os e

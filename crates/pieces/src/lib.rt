@@ -26,7 +26,7 @@ pub enum Part<'a> {
     Octet(u16, u8),
     Octets(u16, &'a [u8]),
     Codes(&'a [u32]),
-    Address(u16, &'a SuaAddress, Records<'a>),
+    Address(u16, &'a SuaAddress, Records<'a, 'a>),
 }
 
 // Writes a number as a parameter. 14.
@@ -77,9 +77,9 @@ impl<'a> Part<'a> {
 // The two addresses of a message, the source first.
 pub fn addresses<'a>(
     source: &'a SuaAddress,
-    source_others: Records<'a>,
+    source_others: Records<'a, 'a>,
     destination: &'a SuaAddress,
-    destination_others: Records<'a>,
+    destination_others: Records<'a, 'a>,
 ) -> [Part<'a>; 2]
     ensures { result ≡ P.Address 0x0102 source.entry source_others.entry
         ∷ P.Address 0x0103 destination.entry destination_others.entry ∷ [] }

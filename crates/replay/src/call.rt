@@ -1,5 +1,5 @@
 // A call: its name, and what is left of its numbers and of its octet strings, which it takes in order (docs/CALLS.md).
-ghost use Rattle.std.specs.Prelude.{◌≤◌, length};
+ghost use Rattle.std.specs.Prelude.{◌<◌, ◌≤◌, length};
 
 use crate::store::Store;
 use address::{GlobalTitle, RoutingIndicator, SuaAddress};
@@ -64,7 +64,7 @@ pub(crate) struct Table<'a> {
 }
 
 impl<'a> Table<'a> {
-    pub(crate) fn records(&self) -> Records<'_> {
+    pub(crate) fn records(&self) -> Records<'a, '_> {
         Records::new(self.values, &self.rows[..self.count.min(64)])
     }
 }
@@ -200,62 +200,112 @@ impl<'a> Call<'a> {
     }
 }
 
-fn decimal(digits: &str) -> u64 {
-    digits.parse().unwrap_or(0)
+// The value of a decimal digit; any other character counts as 0.
+fn decimal_digit(character: u8) -> u64
+    ensures { result < 10 }
+{
+    match character {
+        b'0'..=b'9' => u64::from(character - b'0'),
+        _ => 0,
+    }
 }
 
-fn hexadecimal(digits: &str) -> u8 {
-    u8::from_str_radix(digits, 16).unwrap_or(0)
+// The number of decimal digits. Where it passes 64 bits, the digits so far count as the most that has room for one more.
+fn decimal(digits: &[u8]) -> u64 {
+    let mut n = 0u64;
+    for &digit in digits {
+        n = (n.min(u64::MAX / 10) * 10).wrapping_add(decimal_digit(digit));
+    }
+    n
+}
+
+// The value of a hexadecimal digit; any other character counts as 0.
+fn hexadecimal_digit(character: u8) -> u8
+    ensures { result < 16 }
+{
+    match character {
+        b'0'..=b'9' => character - b'0',
+        b'a'..=b'f' => character - b'a' + 10,
+        _ => 0,
+    }
+}
+
+// The octet of the first two hexadecimal digits.
+fn hexadecimal(digits: &[u8]) -> u8 {
+    match *digits {
+        [high, low, ..] => hexadecimal_digit(high) * 16 + hexadecimal_digit(low),
+        [high] => hexadecimal_digit(high) * 16,
+        [] => 0,
+    }
+}
+
+// What stands in front of a character, and what behind it, if it is there.
+fn split_at_first(text: &[u8], character: u8) -> Option<(&[u8], &[u8])> {
+    let at = text.iter().position(|&c| c == character)?;
+    Some((&text[..at], &text[at + 1..]))
 }
 
 // Stores the octets of pairs of digits, or of one pair, a `*` and how many times.
-fn put_piece(piece: &str, octets: &mut Store<u8>) {
-    if let Some((pair, times)) = piece.split_once('*') {
-        return octets.put(hexadecimal(pair), decimal(times));
+fn put_piece(piece: &[u8], octets: &mut Store<u8>) {
+    if let Some((_, times)) = split_at_first(piece, b'*') {
+        return octets.put(hexadecimal(piece), decimal(times));
     }
-    for pair in piece.as_bytes().chunks_exact(2) {
-        octets.put(hexadecimal(str::from_utf8(pair).unwrap_or("")), 1);
+    for pair in piece.chunks_exact(2) {
+        octets.put(hexadecimal(pair), 1);
     }
 }
 
 // Stores the octets of pieces with `+` between them, and how many they are.
-fn put_string(pieces: &str, octets: &mut Store<u8>, lengths: &mut Store<usize>) {
+fn put_string(pieces: &[u8], octets: &mut Store<u8>, lengths: &mut Store<usize>) {
     let before = octets.count();
-    for piece in pieces.split('+') {
+    for piece in pieces.split(|&c| c == b'+') {
         put_piece(piece, octets);
     }
     lengths.put(octets.count().saturating_sub(before), 1);
 }
 
 // Stores a number, or one that stands in front of a `*` and how many times.
-fn put_number(word: &str, numbers: &mut Store<u64>) {
-    let (number, times) = word.split_once('*').unwrap_or((word, "1"));
-    numbers.put(decimal(number), decimal(times));
+fn put_number(word: &[u8], numbers: &mut Store<u64>) {
+    match split_at_first(word, b'*') {
+        Some((number, times)) => numbers.put(decimal(number), decimal(times)),
+        None => numbers.put(decimal(word), 1),
+    }
 }
+
+// How many octet strings have a place of their own. Those behind them are no arguments, and overwrite the octets from the front.
+const STRINGS: usize = 6;
 
 // The call of a line, whose arguments are stored in what is lent. A first word `beyond` is skipped.
 pub(crate) fn read<'a>(
-    line: &'a str,
+    line: &'a [u8],
     numbers: &'a mut [u64],
     octets: &'a mut [u8],
     lengths: &'a mut [usize],
     codes: &'a mut [u32],
 ) -> Call<'a> {
-    let line = line.strip_prefix("beyond ").unwrap_or(line);
-    let (name, words) = line.split_once(' ').unwrap_or((line, ""));
+    let line = line.strip_prefix(b"beyond ").unwrap_or(line);
+    let (name, words) = split_at_first(line, b' ').unwrap_or((line, &[]));
     let mut numbers = Store::new(numbers);
     let mut octets = Store::new(octets);
     let mut lengths = Store::new(lengths);
-    for word in words.split_whitespace() {
-        match word.strip_prefix('x') {
-            Some(pieces) => put_string(pieces, &mut octets, &mut lengths),
+    let mut strings = 0usize;
+    for word in words.split_inclusive(|&c| c == b' ') {
+        let word = word.strip_suffix(b" ").unwrap_or(word);
+        match word.strip_prefix(b"x") {
+            Some(pieces) => {
+                if STRINGS <= strings {
+                    octets.restart();
+                }
+                strings = strings.saturating_add(1);
+                put_string(pieces, &mut octets, &mut lengths);
+            }
             None => put_number(word, &mut numbers),
         }
     }
     Call {
-        name,
+        name: str::from_utf8(name).unwrap_or("?"),
         numbers: numbers.stored(),
-        octets: octets.stored(),
+        octets: octets.whole(),
         lengths: lengths.stored(),
         codes,
     }

@@ -1,10 +1,11 @@
-// Items that are stored one behind another, as many as there is room for.
+// Items that are stored one behind another, as many as there is room for, so that they never reach past the room.
 ghost use Rattle.std.specs.Prelude.{◌≤◌, length};
 
 #[derive(Drop)]
 pub(crate) struct Store<'a, T> {
     room: &'a mut [T],
     count: usize,
+    ghost within: { count ≤ length room.now },
 }
 
 impl<'a, T: Copy> Store<'a, T> {
@@ -18,15 +19,26 @@ impl<'a, T: Copy> Store<'a, T> {
 
     // Stores an item so many times.
     pub(crate) fn put(&mut self, item: T, times: u64) {
-        let from = self.count.min(self.room.len());
+        let from = self.count;
         let left = self.room.len() - from;
         let n = left.min(usize::try_from(times).unwrap_or(left));
         self.room[from..from + n].fill_with(|| item);
         self.count = from + n;
     }
 
+    // The next items go to the front again, over those that are stored.
+    pub(crate) fn restart(&mut self) {
+        self.count = 0;
+    }
+
     pub(crate) fn stored(self) -> &'a [T] {
         let Store { room, count } = self;
-        room.get(..count).unwrap_or(&[])
+        &room[..count]
+    }
+
+    // All that there is room for, with what is stored in front.
+    pub(crate) fn whole(self) -> &'a [T] {
+        let Store { room, count: _ } = self;
+        &room[..]
     }
 }

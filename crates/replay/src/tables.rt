@@ -100,12 +100,15 @@ fn find_parameter(call: &mut Call, reply: &mut Reply) {
     reply.show(table.records().find_parameter(count, tag));
 }
 
-// The place of the data, and the data.
+// The place of the data, and the data, which live on when the table is gone.
 fn data(call: &mut Call, reply: &mut Reply) {
     let message = call.message();
-    let table = call.table();
-    reply.show(message.data(table.records()));
-    reply.line.octets(message.data_part(table.records()));
+    let part = {
+        let table = call.table();
+        reply.show(message.data(table.records()));
+        message.data_part(table.records())
+    };
+    reply.line.octets(part);
 }
 
 fn contexts_in(call: &mut Call, reply: &mut Reply) {

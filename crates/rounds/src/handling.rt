@@ -28,7 +28,7 @@ struct Lent<'a> {
 
 impl<'a> Lent<'a> {
     // Alters an octet behind the message and a row behind the last one, so that no round is given what an earlier one was.
-    fn altered(&mut self, i: u32) -> Records<'_> {
+    fn altered(&mut self, i: u32) -> Records<'_, '_> {
         let [low, second, ..] = i.to_le_bytes();
         self.octets[8191] = low;
         self.rows[1000] = Place {

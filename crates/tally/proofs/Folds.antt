@@ -1,14 +1,13 @@
--- What folds without a branch say: a test of every element, a number among others, and a sum that stays within 64 bits.
+-- What folds without a branch say: a test of every element, and a sum that stays within 64 bits.
 use Prim.Native.Nat.{ℕ, suc, ◌+◌, ◌-◌, ◌*◌, ◌^◌, ◌≤◌, ◌<◌, min}
 use mathlib.Core.Path.{◌≡◌, refl, sym, ap₂, ◌∙◌}
-use mathlib.Core.Bool.{Bool, ◌&&◌, ◌||◌, and_assoc, and-true, or_assoc, or-false}
+use mathlib.Core.Bool.{Bool, ◌&&◌, and_assoc, and-true}
 use mathlib.Core.List.{List, [], ◌∷◌}
 use native.Mathlib.Omega.{arith}
-use lib.Dec.{leb, eqb}
+use lib.Dec.{leb}
 use lib.ListN.{get_or}
 use borrow.Author.Tests.{leb-true, le-leb}
 use Rattle.std.specs.List.{fold, sum, list_all, zip}
-use Rattle.bcd.specs.Outcome.{among}
 use Rattle.bcd.proofs.Tests.{agree}
 use Rattle.parameter.specs.Parameter.{most_value}
 use Rattle.tally.specs.Members.{every}
@@ -18,10 +17,6 @@ use Rattle.tally.proofs.Lists.{sum_cons}
 pub fold_every : {A : Type 0} (test : A → Bool) (b : Bool) (xs : List A) → fold (λ b x. b && test x) b xs ≡ (b && every test xs)
 fold_every test b [] = sym (and-true b)
 fold_every test b (x ∷ xs) = fold_every test (b && test x) xs ∙ and_assoc b (test x) (every test xs)
-
-pub fold_among : (n : ℕ) (b : Bool) (ms : List ℕ) → fold (λ b m. b || eqb m n) b ms ≡ (b || among n ms)
-fold_among n b [] = sym (or-false b)
-fold_among n b (m ∷ ms) = fold_among n (b || eqb m n) ms ∙ or_assoc b (eqb m n) (among n ms)
 
 pub fold_sum : (a : ℕ) (ns : List ℕ) → a ≤ 2 ^ 64 - 1 → fold (λ a n. min (a + n) (2 ^ 64 - 1)) a ns ≡ min (a + sum ns) (2 ^ 64 - 1)
 fold_sum a [] h = omega arith

@@ -19,7 +19,7 @@ returns c =
     let count = c.min-count.result in
     let room : count ≤ 255 = omega (arith, c.from-declared.ensures, c.min-count.ensures, c.ranges.num_digits.fits) in
     let lent : length {A = ℕ} (take count (replicate 255 0)) ≡ count = length-take-le count (replicate 255 0) room in
-    reading_done built_in c.args.bytes.now c.args.num_digits count _ c.unpack_digits.new.out (few_octets c.in_ok-within.ensures)
+    reading_done built_in c.args.bytes.now c.args.num_digits count _ c.fill_digits.new.out (few_octets c.in_ok-within.ensures)
     (omega (arith, c.from-declared.ensures, c.min-count.ensures))
     (omega (arith, c.from-declared.ensures))
-    (c.unpack_digits.ensures ∙ ap (digits_in built_in c.args.bytes.now) lent)
+    (c.fill_digits.ensures ∙ ap (digits_in built_in c.args.bytes.now) lent)

@@ -27,6 +27,22 @@ const SHORT_TITLES: [&str; 7] = [
     "address_decode 0 0 0 x000100048001000e0000000404000104214300008001000d000000040300010421000000",
 ];
 
+/// Lines that are not spelt as docs/CALLS.md has it, beside the calls that they are read as: a wrong digit counts as 0, each space
+/// ends a word, a number that is too large stops at the last digit, and from the seventh on octet strings overwrite the first.
+const MISSPELT: [(&[u8], &str); 11] = [
+    (b"wire_length 4 1a", "wire_length 4 10"),
+    (b"wire_length  4 5", "wire_length 0 4"),
+    (b"wire_length 4\t5", "wire_length 405 0"),
+    (b"wire_length 4 5\r", "wire_length 4 50"),
+    (b"wire_length 4 -5", "wire_length 4 5"),
+    (b"wire_length 4 18446744073709551620", "wire_length 4 18446744073709551610"),
+    (b"as_u32 x0000000A", "as_u32 x00000000"),
+    (b"as_u32 x1*4", "as_u32 x10101010"),
+    (b"as_u32 x000000g5", "as_u32 x00000005"),
+    (b"as_u32 x00000005 \xff", "as_u32 x00000005"),
+    (b"as_u32 x00000005 x x x x x x07", "as_u32 x07000005"),
+];
+
 /// Document 01's worked messages, pairs and indicators in full, titles that ran short, and routing contexts in a set.
 fn worked() -> Vec<String> {
     let asp = "0100030100000008";
@@ -129,8 +145,13 @@ pub fn record(folder: &str) -> bool {
         pairs.extend(chosen(name, numbers, 1_000_000 * (i as u64 + 1)));
     }
     let text = |lines: Vec<&String>| lines.iter().fold(String::new(), |text, line| text + line + "\n");
-    let stdin = text(pairs.iter().map(|p| &p.0).collect());
-    let stdout = text(pairs.iter().map(|p| &p.1).collect());
-    println!("{} calls of {} functions: {} and {} characters", pairs.len(), CALLS.len(), stdin.len(), stdout.len());
+    let mut stdin = text(pairs.iter().map(|p| &p.0).collect()).into_bytes();
+    let mut stdout = text(pairs.iter().map(|p| &p.1).collect());
+    for (line, call) in MISSPELT {
+        stdin.extend_from_slice(line);
+        stdin.push(b'\n');
+        stdout += &(answer(&Call::parse(call)) + "\n");
+    }
+    println!("{} calls of {} functions: {} and {} characters", pairs.len() + MISSPELT.len(), CALLS.len(), stdin.len(), stdout.len());
     std::fs::write(format!("{folder}/stdin"), stdin).is_ok() && std::fs::write(format!("{folder}/stdout"), stdout).is_ok()
 }

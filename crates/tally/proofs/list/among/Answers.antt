@@ -6,7 +6,7 @@ use mathlib.Core.Bool.{false, ◌||◌}
 use lib.Dec.{eqb}
 use Rattle.std.proofs.lemmas.Iterator.{YieldsList-from_slice}
 use Rattle.std.proofs.lemmas.Iterator.Consumers.{fold_from_yields_List}
-use Rattle.tally.proofs.Folds.{fold_among}
+use Rattle.bcd.proofs.Tests.{fold_among}
 use Rattle.tally.proofs.list.among.Goals as goal
 
 pub returns : goal.returns

@@ -2,7 +2,7 @@
 use mathlib.Core.Path.{◌∙◌}
 use native.Mathlib.Omega.{arith}
 use Rattle.message.proofs.Headers.{four_bytes}
-use Rattle.flat.proofs.Emission.{writes_more, two_bytes}
+use Rattle.flat.proofs.Emission.{two_bytes}
 use Rattle.flat.proofs.writer.Writer.place.Goals as goal
 
 pub returns : goal.returns
@@ -11,4 +11,4 @@ returns c =
     let t = c.to_be_bytes.ensures ∙ two_bytes p.tag (omega (arith, c)) in
     let s = c.to_be_bytes-2.ensures ∙ four_bytes p.start (omega (arith, c.requires)) in
     let l = c.to_be_bytes-3.ensures ∙ four_bytes p.length (omega (arith, c.requires)) in
-    writes_more (writes_more (rw t at c.put.ensures) (rw s at c.put-2.ensures)) (rw l at c.put-3.ensures)
+    rw (t, s, l) at c.put.ensures

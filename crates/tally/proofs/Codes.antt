@@ -2,20 +2,20 @@
 use Prim.Native.Nat.{ℕ, ◌+◌, ◌-◌, ◌*◌, ◌^◌, ◌≤◌, ◌<◌}
 use mathlib.Core.Path.{◌≡◌, refl, sym, ap, ap₂, ◌∙◌}
 use mathlib.Core.Logic.{⊎_elim}
-use mathlib.Core.Bool.{Bool, true, false, not, ◌&&◌, ◌||◌}
+use mathlib.Core.Bool.{Bool, true, false, not, ◌&&◌, ◌||◌, and-false, or-false}
 use mathlib.Core.List.{List, [], ◌∷◌, ◌++◌, map}
 use native.Mathlib.Omega.{arith}
 use native.Mathlib.Numerals.{add-one}
 use native.Mathlib.Nat.{pow-suc, pow-le-pow_right}
 use lib.Dec.{lit<, eqb}
-use lib.ListN.{length, get_or, take, length-map}
-use lib.Seq.{take-suc}
+use lib.ListN.{length, get_or, take, drop, length-map, take-append-drop}
+use lib.Seq.{take-suc, take-take}
 use borrow.Author.Tests.{eq-eqb, eqb-true}
 use Rattle.bcd.specs.Outcome.{among}
 use Rattle.bcd.proofs.Outcomes.{le_or_lt}
 use Rattle.bcd.proofs.Halves.{Nibbles}
 use Rattle.bcd.proofs.Below.{both}
-use Rattle.bcd.proofs.Tests.{agree}
+use Rattle.bcd.proofs.Tests.{agree, among-append}
 use Rattle.tally.specs.Members.{between, every, same, distinct}
 use Rattle.tally.specs.Steps.Codes.{code_from, code, values, codes, unlike}
 use Rattle.tally.proofs.Lists.{between_inv}
@@ -109,6 +109,41 @@ codes-distinct (p ∷ ps) e =
         let t = both (every (between 0x30 0x39) q) (every (every (between 0x30 0x39)) qs) e in
         not_or (eqb (code (values q)) (code (values p))) (among (code (values p)) (codes qs))
         ∙ ap₂ ◌&&◌ (ap not (prefix_same p q a t.0)) (none p qs a t.1)
+
+-- no two of the first i are the same, and the next is not among them
+unlike-append : (ns : List ℕ) (n : ℕ) → unlike (ns ++ (n ∷ [])) ≡ (unlike ns && not (among n ns))
+unlike-append [] n = refl
+unlike-append (m ∷ ns) n =
+    rw (among-append m ns (n ∷ []), unlike-append ns n, or-false (eqb n m), turned n m)
+    (sides (among m ns) (eqb m n) (unlike ns) (among n ns))
+  where
+    turned : (m n : ℕ) → eqb m n ≡ eqb n m
+    turned m n = agree (eqb m n) (eqb n m) (λ e. eq-eqb n m (sym (eqb-true m n e))) (λ e. eq-eqb m n (sym (eqb-true n m e)))
+
+    sides : (a e u c : Bool) → (not (a || e) && (u && not c)) ≡ (not a && u && not (e || c))
+    sides true e u c = refl
+    sides false true u c = sym (and-false u)
+    sides false false u c = refl
+
+pub unlike_next : (ns : List ℕ) (i : ℕ) → i < length ns → unlike (take (i + 1) ns) ≡ (unlike (take i ns) && not (among (get_or ns i 0) (take i ns)))
+unlike_next ns i h = rw (add-one, take-suc ns i 0 h) (unlike-append (take i ns) (get_or ns i 0))
+
+unlike-front : (ms ns : List ℕ) → unlike ms ≡ false → unlike (ms ++ ns) ≡ false
+unlike-front [] ns e = let z : ◌≡◌ {A = ℕ} 0 1 = cc in absurd (omega arith)
+unlike-front (m ∷ ms) ns e =
+    rw (among-append m ms ns) (fronts (among m ms) (among m ns) (unlike ms) (unlike (ms ++ ns)) (unlike-front ms ns) e)
+  where
+    fronts : (a b u v : Bool) → (u ≡ false → v ≡ false) → (not a && u) ≡ false → (not (a || b) && v) ≡ false
+    fronts true b u v f e = refl
+    fronts false true u v f e = refl
+    fronts false false u v f e = f e
+
+-- a number among those before it
+pub unlike_not : (ns : List ℕ) (i n : ℕ) → i < n → n ≤ length ns → among (get_or ns i 0) (take i ns) ≡ true → unlike (take n ns) ≡ false
+unlike_not ns i n h k e =
+    let front : take (i + 1) (take n ns) ≡ take (i + 1) ns = take-take (i + 1) n ns (omega arith) in
+    let f : unlike (take (i + 1) (take n ns)) ≡ false = rw (front, unlike_next ns i (omega arith), e) (and-false (unlike (take i ns))) in
+    ap unlike (sym (take-append-drop (i + 1) (take n ns))) ∙ unlike-front (take (i + 1) (take n ns)) (drop (i + 1) (take n ns)) f
 
 -- the number of the first i half octets, which leaves room in 64 bits for one more
 abbrev pub Coded : List ℕ → ℕ → ℕ → Type 0

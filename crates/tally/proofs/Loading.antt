@@ -1,12 +1,12 @@
 -- A member list that is lent, cut into its members one after the other.
-use Prim.Native.Nat.{ℕ, suc, ◌+◌, ◌≤◌, ◌<◌}
+use Prim.Native.Nat.{ℕ, zero, suc, ◌+◌, ◌≤◌, ◌<◌}
 use mathlib.Core.Path.{◌≡◌, refl, sym, ap, ap₂, ◌∙◌}
 use mathlib.Core.Bool.{Bool, true, false, ◌&&◌, and-false}
 use mathlib.Core.List.{List, [], ◌∷◌, ◌++◌, map, append_assoc, append-nil}
 use native.Mathlib.Omega.{arith}
 use lib.Dec.{eqb}
 use lib.ListN.{length, get_or, set, take, drop, length-drop, length-set, drop_of_length-le}
-use lib.Seq.{length-take-le}
+use lib.Seq.{length-take-le, drop-drop}
 use borrow.Author.Tests.{eqb-true}
 use Rattle.std.specs.List.{sum}
 use Rattle.std.proofs.lemmas.List.{take_more_set, drop_more}
@@ -20,6 +20,20 @@ pub members-length : (ds ns : List ℕ) → length (members ds ns) ≡ length ns
 unfolding members
 members-length ds [] = refl
 members-length ds (n ∷ ns) = ap suc (members-length (drop n ds) ns)
+
+-- each begins where those before it end
+pub codes_at :
+    (ds ns : List ℕ) (i : ℕ)
+    → i < length ns
+    → get_or (codes (members ds ns)) i 0 ≡ code (values (take (get_or ns i 0) (drop (sum (take i ns)) ds)))
+unfolding members
+codes_at ds [] i h = absurd (omega arith)
+codes_at ds (n ∷ ns) zero h = refl
+codes_at ds (n ∷ ns) (suc i) h =
+    let at : n + sum (take i ns) ≡ sum (n ∷ take i ns) = omega (arith, sum_cons n (take i ns)) in
+    codes_at (drop n ds) ns i (omega arith)
+    ∙ ap (λ (l : List ℕ). code (values (take (get_or ns i 0) l))) (drop-drop (sum (take i ns)) n ds)
+    ∙ ap (λ (m : ℕ). code (values (take (get_or ns i 0) (drop m ds)))) at
 
 members_sizes : (ds ns : List ℕ) → sum ns ≤ length ds → ns ≡ map length (members ds ns)
 unfolding members

@@ -1,7 +1,7 @@
 -- Messages of parts: the parameters that the parts are, in order.
 use Prim.Native.Nat.{ℕ, ◌≤◌}
 use mathlib.Core.Path.{◌≡◌, refl, sym, ap, ◌∙◌}
-use mathlib.Core.List.{List, [], ◌∷◌, ◌++◌, append_assoc, append-nil}
+use mathlib.Core.List.{List, [], ◌∷◌, ◌++◌, append-nil}
 use native.Mathlib.Omega.{arith}
 use denote.Bor.{Bor}
 use lib.ListN.{length}
@@ -17,6 +17,7 @@ use Rattle.address.proofs.Encoding.{given-known}
 use Rattle.pieces.specs.Parts.{number, octet, given, affected, given_written, run_written}
 use Rattle.pieces.specs.declared.Part.{Part}
 use Rattle.pieces.specs.declared.Part.TheVariants as P
+use Rattle.pieces.proofs.Running.{each_joined}
 use Rattle.message.specs.declared.types.MessageType.{MessageType}
 use Rattle.message.specs.Message.{framed}
 use Rattle.message.specs.declared.types.MessageType.TheVariants as M
@@ -36,31 +37,12 @@ made_written : (m : MessageType) {parts : List (Option Part)} {ps : List Param} 
 made_written m {parts} {ps} e = ap (λ (o : Outcome (List ℕ)). after o (λ os. writable (framed m os))) e.run ∙ sym (written-framed sua_kinds m (accepted ps))
 
 -- One behind the other.
-each_joined :
-    (xs ys : List Param)
-    → each encode_param (xs ++ ys) ≡ after (each encode_param xs) (λ us. mapped (λ vs. us ++ vs) (each encode_param ys))
-each_joined [] ys = go (each encode_param ys)
-  where
-    go : (o : Outcome (List ℕ)) → o ≡ mapped (λ vs. [] ++ vs) o
-    go (accepted vs) = refl
-    go (refused n vs) = refl
-each_joined (x ∷ xs) ys = rw (each_joined xs ys) (go (encode_param x) (each encode_param xs) (each encode_param ys))
-  where
-    go :
-        (a b c : Outcome (List ℕ))
-        → after a (λ ys. mapped (λ zs. ys ++ zs) (after b (λ us. mapped (λ vs. us ++ vs) c)))
-        ≡ after (after a (λ ys. mapped (λ zs. ys ++ zs) b)) (λ us. mapped (λ vs. us ++ vs) c)
-    go (refused n vs) b c = refl
-    go (accepted s) (refused n vs) c = refl
-    go (accepted s) (accepted us) (refused n vs) = refl
-    go (accepted s) (accepted us) (accepted vs) = ap accepted (sym (append_assoc s us vs))
-
 alone : (o : Outcome (List ℕ)) → after o (λ us. mapped (λ vs. us ++ vs) (accepted [])) ≡ o
 alone (accepted us) = ap accepted (append-nil us)
 alone (refused n vs) = refl
 
 pub joined : {part : Option Part} {parts : List (Option Part)} {xs ys : List Param} → Is part xs → Are parts ys → Are (part ∷ parts) (xs ++ ys)
-joined {part} {parts} {xs} {ys} e f = record { run = rw (e.one, f.run) (sym (each_joined xs ys)) }
+joined {part} {parts} {xs} {ys} e f = record { run = rw (e.one, f.run) (sym (each_joined encode_param xs ys)) }
 
 pub last : {part : Option Part} {xs : List Param} → Is part xs → Are (part ∷ []) xs
 last {part} {xs} e = record { run = alone (given_written part) ∙ e.one }

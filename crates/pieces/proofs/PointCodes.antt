@@ -89,6 +89,22 @@ codes_in_length (m ∷ a ∷ []) = refl
 codes_in_length (m ∷ []) = refl
 codes_in_length [] = refl
 
+abbrev code_in : List ℕ → ℕ → ℕ
+code_in xs at = get_or xs (at + 1) 0 * 65536 + get_or xs (at + 2) 0 * 256 + get_or xs (at + 3) 0
+
+pub codes_in_at : (xs : List ℕ) (i : ℕ) → 4 * i + 3 < length xs → get_or (codes_in xs) i 0 ≡ code_in xs (4 * i)
+unfolding codes_in
+codes_in_at (m ∷ a ∷ b ∷ c ∷ xs) zero h = refl
+codes_in_at (m ∷ a ∷ b ∷ c ∷ xs) (suc i) h =
+    codes_in_at xs i (omega arith) ∙ sym (rw (next 1, next 2, next 3))
+  where
+    next : (k : ℕ) → get_or (m ∷ a ∷ b ∷ c ∷ xs) (4 * suc i + k) 0 ≡ get_or xs (4 * i + k) 0
+    next k = let e : 4 * suc i + k ≡ suc (suc (suc (suc (4 * i + k)))) = omega arith in ap (λ n. get_or (m ∷ a ∷ b ∷ c ∷ xs) n 0) e
+codes_in_at (m ∷ a ∷ b ∷ []) i h = absurd (omega arith)
+codes_in_at (m ∷ a ∷ []) i h = absurd (omega arith)
+codes_in_at (m ∷ []) i h = absurd (omega arith)
+codes_in_at [] i h = absurd (omega arith)
+
 -- The code of a group of four octets.
 abbrev pub group_code : List ℕ → ℕ
 group_code x = get_or x 1 0 * 65536 + get_or x 2 0 * 256 + get_or x 3 0

@@ -1,15 +1,35 @@
 -- Octets that are written one behind the other, and how far the elements of a list have been measured or written.
 use Prim.Native.Nat.{ℕ, ◌+◌, ◌-◌, ◌≤◌, ◌<◌}
 use mathlib.Core.Path.{◌≡◌, refl, sym, ap, ◌∙◌}
-use mathlib.Core.List.{List, [], ◌++◌, append-nil}
+use mathlib.Core.List.{List, [], ◌∷◌, ◌++◌, append_assoc, append-nil}
 use native.Mathlib.Omega.{arith}
 use lib.ListN.{length, get_or, take, length-append, length-take, length-drop}
 use lib.Seq.{take_all}
 use borrow.Rule.Slice.PartMut.{mid_of, put_mid}
-use Rattle.bcd.specs.Outcome.{Outcome, accepted, refused, mapped, each, fit64, deliver}
+use Rattle.bcd.specs.Outcome.{Outcome, accepted, refused, after, mapped, each, fit64, deliver}
 use Rattle.bcd.proofs.Outcomes.{accepted_inj, never, mapped_inv, each_more, each_stopped, each-front, deliver_buffer, deliver_answer}
 use Rattle.bcd.proofs.Writing.{Begun, extend, delivered}
 use Rattle.pieces.specs.Parts.{Placeable}
+
+-- What is written of two lists in a row.
+pub each_joined :
+    {A B : Type 0} (f : A → Outcome (List B)) (xs ys : List A)
+    → each f (xs ++ ys) ≡ after (each f xs) (λ us. mapped (λ vs. us ++ vs) (each f ys))
+each_joined {A} {B} f [] ys = go (each f ys)
+  where
+    go : (o : Outcome (List B)) → o ≡ mapped (λ vs. [] ++ vs) o
+    go (accepted vs) = refl
+    go (refused n vs) = refl
+each_joined {A} {B} f (x ∷ xs) ys = rw (each_joined f xs ys) (go (f x) (each f xs) (each f ys))
+  where
+    go :
+        (a b c : Outcome (List B))
+        → after a (λ ys. mapped (λ zs. ys ++ zs) (after b (λ us. mapped (λ vs. us ++ vs) c)))
+        ≡ after (after a (λ ys. mapped (λ zs. ys ++ zs) b)) (λ us. mapped (λ vs. us ++ vs) c)
+    go (refused n vs) b c = refl
+    go (accepted s) (refused n vs) c = refl
+    go (accepted s) (accepted us) (refused n vs) = refl
+    go (accepted s) (accepted us) (accepted vs) = ap accepted (sym (append_assoc s us vs))
 
 -- Octets that a callee wrote behind what was begun.
 pub record Wrote (out p d : List ℕ) (at : ℕ) (os : List ℕ) (a : Outcome ℕ) (last : List ℕ) : Type 0 where
